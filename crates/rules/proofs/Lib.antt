@@ -1,0 +1,4 @@
+-- The laws of the definitions.
+pub mod Indices
+pub mod Terms
+pub mod Gathered

@@ -1,0 +1,97 @@
+-- The desk program's line, from its input.
+use mathlib.Core.Path.{_≡_, sym, _∙_}
+use mathlib.Core.Bool.{Bool, true, false, cond, _&&_}
+use mathlib.Core.List.{List, [], _∷_, _++_}
+use Prim.Native.Nat.{ℕ, zero, suc, _+_, _-_, _*_}
+use lib.Dec.{ltb, eqb}
+use lib.ListN.{length, replicate}
+use Rattle.rules.specs.Each.{listed}
+use Rattle.rules.specs.Limits.{most-desk-bytes, most-desk-variables, desk-terms}
+use Rattle.rules.specs.Product.{kind-of}
+use Rattle.rules.specs.Judging.{term-width, judge-checks, verdict}
+use Rattle.rules.specs.Reading.{Netlist, netlist, refused, reading}
+use Rattle.rules.specs.Says.{Says, refuses, answers, first, refuse-or}
+use Rattle.rules.specs.Text.{line-feed, space, decimal}
+use Rattle.rules.specs.declared.answers.Line.{Line}
+use Rattle.rules.specs.declared.counts.Counts.{Counts}
+
+-- the bytes of the longest line that there is room for
+abbrev pub line-room : ℕ
+line-room = 80
+
+-- the words of the desk's table: enough for every O and A within the limits
+abbrev pub desk-table : ℕ
+desk-table = 2106
+
+-- the order M down to I + 1
+unfoldable pub falling : Counts → List ℕ
+falling c = listed (c .a) (λ k. c .m - k)
+
+-- judging with the desk's term limit and order, and buffers that are long enough
+unfoldable pub desk-judging : ℕ → Counts → List ℕ → Says
+desk-judging kind c words =
+    let order = falling c in
+    let v = verdict (kind-of kind) c words desk-terms order in
+    refuse-or
+    (first (judge-checks c words kind desk-terms order (desk-terms * term-width c) (4 * desk-terms * term-width c) (length order) (length order)))
+    v
+
+-- refusal 13 for M above 127, and else judging
+unfoldable pub desk-sized : ℕ → Counts → List ℕ → Bool → Says
+desk-sized kind c words true = refuses 13
+desk-sized kind c words false = desk-judging kind c words
+
+-- the text's own refusals, then its size
+unfoldable pub desk-read : ℕ → Netlist → Says
+desk-read kind (netlist c words) = desk-sized kind c words (ltb most-desk-variables (c .m))
+desk-read kind (refused k) = refuses k
+
+-- the number of the kind that a byte names, `u`, `s` or `t`; 3 is no kind
+unfoldable pub kind-named : ℕ → ℕ
+kind-named x = cond (eqb x 117) 0 (cond (eqb x 115) 1 (cond (eqb x 116) 2 3))
+
+-- behind a kind line that names a kind: the netlist text; else 9
+unfoldable pub desk-kind : ℕ → List ℕ → Bool → Says
+desk-kind kind text true = desk-read kind (reading desk-table text)
+desk-kind kind text false = refuses 9
+
+-- the kind line is one byte and a line feed
+unfoldable pub desk-lines : List ℕ → Says
+desk-lines [] = refuses 9
+desk-lines (x ∷ []) = refuses 9
+desk-lines (x ∷ end ∷ text) = desk-kind (kind-named x) text (ltb (kind-named x) 3 && eqb end line-feed)
+
+-- refusal 13 for more than 4,096 bytes, and else the lines
+unfoldable pub desk-long : List ℕ → Bool → Says
+desk-long input true = refuses 13
+desk-long input false = desk-lines input
+
+-- what the desk program says of its input
+unfoldable pub desk-says : List ℕ → Says
+desk-says input = desk-long input (ltb most-desk-bytes (length input))
+
+-- E, D, R, U: the letters of the answers 0 to 3
+unfoldable pub letter : ℕ → ℕ
+letter zero = 69
+letter (suc zero) = 68
+letter (suc (suc zero)) = 82
+letter (suc (suc (suc k))) = 85
+
+-- a space and a number, for each number
+unfoldable pub spaced : List ℕ → List ℕ
+spaced [] = []
+spaced (x ∷ later) = space ∷ decimal x ++ spaced later
+
+-- a letter, its numbers in decimal, and a line end; X is the letter of a refusal
+unfoldable pub printed : Says → List ℕ
+printed (refuses k) = 88 ∷ spaced (k ∷ []) ++ line-feed ∷ []
+printed (answers k numbers) = letter k ∷ spaced numbers ++ line-feed ∷ []
+
+-- the line that the desk program prints
+unfoldable pub desk-line : List ℕ → List ℕ
+desk-line input = printed (desk-says input)
+
+-- the permitted outcome of the desk's line: its bytes with zeros behind them, and how many they are
+pub record Lined (input : List ℕ) (r : Line) : Type 0 where
+  pub bytes : r .bytes ≡ desk-line input ++ replicate (line-room - length (desk-line input)) 0
+  pub len : r .len ≡ length (desk-line input)

@@ -1,0 +1,203 @@
+-- What the judge answers, and every lent word when it returns.
+use mathlib.Core.Path.{_≡_, sym, _∙_}
+use mathlib.Core.Bool.{Bool, true, false, not, cond, _||_, _&&_}
+use mathlib.Core.List.{List, [], _∷_, _++_, map}
+use Prim.Native.Nat.{ℕ, zero, suc, pred, _+_, _-_, _*_, _/_, _%_, _^_}
+use lib.Count.{ones}
+use lib.Dec.{leb, ltb, eqb}
+use lib.ListN.{length, getD, take, drop, replicate}
+use Rattle.rules.specs.Each.{each, every, joined, listed}
+use Rattle.rules.specs.Limits.{terms-wrong, steps-wrong}
+use Rattle.rules.specs.Netlist.{counts-wrong, table-short, table-unsound}
+use Rattle.rules.specs.Values.{width, shown}
+use Rattle.rules.specs.Product.{Kind, kind-of, kind-unknown, outputs-of, product}
+use Rattle.rules.specs.Polynomial.{Term, Polynomial}
+use Rattle.rules.specs.Steps.{run}
+use Rattle.rules.specs.Says.{Says, answers, first, refuse-or, says}
+use Rattle.rules.specs.declared.answers.Answer.{Answer}
+use Rattle.rules.specs.declared.counts.Counts.{Counts}
+
+-- W, the words of a set
+unfoldable pub set-width : Counts → ℕ
+set-width c = c .m / 64 + 1
+
+-- the words of a term: its coefficient, then its set
+unfoldable pub term-width : Counts → ℕ
+term-width c = set-width c + 1
+
+-- kind unknown, or O is not l (9)
+unfoldable pub kind-wrong : Counts → ℕ → Bool
+kind-wrong c kind = kind-unknown kind || not (eqb (c .o) (outputs-of (kind-of kind) (width c)))
+
+-- I < v ≤ M
+unfoldable pub is-gate : Counts → ℕ → Bool
+is-gate c v = ltb (c .i) v && leb v (c .m)
+
+-- order too long, or it names something that is no gate (11)
+unfoldable pub order-wrong : Counts → List ℕ → Bool
+order-wrong c order = steps-wrong (length order) || not (every (is-gate c) order)
+
+-- store, scratch or log too short (12), from their lengths
+unfoldable pub lent-short : Counts → ℕ → ℕ → ℕ → ℕ → ℕ → ℕ → Bool
+lent-short c limit steps store scratch gates terms =
+    ltb store (limit * term-width c) || ltb scratch (4 * limit * term-width c) || ltb gates steps || ltb terms steps
+
+-- the checks of judging in their order; of the lent buffers they ask only how long they are
+unfoldable pub judge-checks : Counts → List ℕ → ℕ → ℕ → List ℕ → ℕ → ℕ → ℕ → ℕ → List (ℕ × Bool)
+judge-checks c table kind limit order store scratch gates terms =
+    (2, counts-wrong c)
+    ∷ (3, table-short c (length table))
+    ∷ (8, table-unsound c table)
+    ∷ (9, kind-wrong c kind)
+    ∷ (10, terms-wrong limit)
+    ∷ (11, order-wrong c order)
+    ∷ (12, lent-short c limit (length order) store scratch gates terms)
+    ∷ []
+
+-- how many polynomials of the run, from its first, have at most T terms before one has more
+unfoldable pub roomy : ℕ → List Polynomial → ℕ
+roomy limit [] = 0
+roomy limit (p ∷ later) = cond (ltb limit (length p)) 0 (suc (roomy limit later))
+
+-- the polynomial held at the end: the last before one has more than T terms; none where the first has
+unfoldable pub held : ℕ → List Polynomial → Polynomial
+held limit polynomials = getD ([] ∷ polynomials) (roomy limit polynomials) []
+
+-- the steps completed: after each the polynomial has at most T terms
+unfoldable pub completed : ℕ → List Polynomial → ℕ
+completed limit polynomials = pred (roomy limit polynomials)
+
+-- input variables only: the set is a sum of 2^1 to 2^I
+unfoldable pub inputs-only : Counts → Polynomial → Bool
+inputs-only c p = every (λ (t : Term). ltb (t .1) (2 ^ (c .i + 1))) p
+
+-- the set s comes before the set t: fewer variables, or as many and the smaller number
+unfoldable pub sooner : ℕ → ℕ → Bool
+sooner s t = ltb (ones s) (ones t) || (eqb (ones s) (ones t) && ltb s t)
+
+-- of s and the sets of a polynomial, the one that comes before all others
+unfoldable pub soonest : ℕ → Polynomial → ℕ
+soonest s [] = s
+soonest s (t ∷ p) = soonest (cond (sooner (t .1) s) (t .1) s) p
+
+-- the pair of operand words whose 1 bits are the variables of a set: set / 2 is a + 2^n b
+unfoldable pub pair-a : ℕ → ℕ → ℕ
+pair-a n s = s / 2 % 2 ^ n
+
+unfoldable pub pair-b : ℕ → ℕ → ℕ
+pair-b n s = s / 2 / 2 ^ n
+
+-- D, with the wrong pair of set s: what evaluation of the gates shows, and the wanted word
+unfoldable pub differs : Kind → Counts → List ℕ → ℕ → ℕ → ℕ → Says
+differs kind c table steps terms s =
+    let a = pair-a (width c) s in
+    let b = pair-b (width c) s in
+    answers 1 (steps ∷ terms ∷ a ∷ b ∷ shown c table a b ∷ product kind (width c) a b ∷ [])
+
+-- E, D or U by the last polynomial: zero, of input variables only, or with a gate variable
+unfoldable pub ended : Kind → Counts → List ℕ → ℕ → Polynomial → Says
+ended kind c table steps [] = answers 0 (steps ∷ 0 ∷ [])
+ended kind c table steps (t ∷ p) =
+    let d = differs kind c table steps (length (t ∷ p)) (soonest (t .1) p) in
+    let u = answers 3 (steps ∷ length (t ∷ p) ∷ []) in
+    cond (inputs-only c (t ∷ p)) d u
+
+-- what the judge says once nothing is refused: R at the first polynomial with more than T terms, else by the last one
+unfoldable pub verdict : Kind → Counts → List ℕ → ℕ → List ℕ → Says
+verdict kind c table limit order =
+    let polynomials = run kind c table order in
+    let room = roomy limit polynomials in
+    let r = answers 2 (room ∷ length (held limit polynomials) ∷ []) in
+    let e = ended kind c table (length order) (held limit polynomials) in
+    cond (leb room (length order)) r e
+
+-- the words of a term: its coefficient, then its set, variable v at bit v mod 64 of word v/64
+unfoldable pub term-words : ℕ → Term → List ℕ
+term-words w t = t .0 ∷ listed w (λ j. t .1 / 2 ^ (64 * j) % 2 ^ 64)
+
+-- the words of a polynomial's terms, one behind the other
+unfoldable pub polynomial-words : ℕ → Polynomial → List ℕ
+polynomial-words w [] = []
+polynomial-words w (t ∷ p) = term-words w t ++ polynomial-words w p
+
+-- a list with zeros to the length that was lent
+unfoldable pub padded : ℕ → List ℕ → List ℕ
+padded lent words = words ++ replicate (lent - length words) 0
+
+-- the first entries, then what stood behind them
+unfoldable pub over : ℕ → List ℕ → List ℕ → List ℕ
+over count new old = take count new ++ drop count old
+
+-- a buffer at exit: as it was where there is a refusal
+unfoldable pub kept-or : ℕ → List ℕ → List ℕ → List ℕ
+kept-or zero old new = new
+kept-or (suc k) old new = old
+
+-- everything that the judge is handed
+pub record Inputs : Type 0 where
+  pub counts : Counts
+  pub table : List ℕ
+  pub kind : ℕ
+  pub limit : ℕ
+  pub order : List ℕ
+  pub store : List ℕ
+  pub scratch : List ℕ
+  pub gates : List ℕ
+  pub terms : List ℕ
+
+-- the checks of what is handed in
+unfoldable pub checks : Inputs → List (ℕ × Bool)
+checks x =
+    judge-checks
+    (x .counts)
+    (x .table)
+    (x .kind)
+    (x .limit)
+    (x .order)
+    (length (x .store))
+    (length (x .scratch))
+    (length (x .gates))
+    (length (x .terms))
+
+-- the refusal of what is handed in, or 0
+unfoldable pub refusal : Inputs → ℕ
+refusal x = first (checks x)
+
+-- the polynomials of the run that is asked for
+unfoldable pub polynomials : Inputs → List Polynomial
+polynomials x = run (kind-of (x .kind)) (x .counts) (x .table) (x .order)
+
+-- what the judge says
+unfoldable pub judging : Inputs → Says
+judging x =
+    let v = verdict (kind-of (x .kind)) (x .counts) (x .table) (x .limit) (x .order) in
+    refuse-or (refusal x) v
+
+-- the store at exit: the polynomial held, then zeros to the end of what was lent
+unfoldable pub store-after : Inputs → List ℕ
+store-after x =
+    let new = padded (length (x .store)) (polynomial-words (set-width (x .counts)) (held (x .limit) (polynomials x))) in
+    kept-or (refusal x) (x .store) new
+
+-- scratch at exit: all zeros
+unfoldable pub scratch-after : Inputs → List ℕ
+scratch-after x = kept-or (refusal x) (x .scratch) (replicate (length (x .scratch)) 0)
+
+-- the log at exit: for each step completed its gate, and the terms after it; other records as they were
+unfoldable pub gates-after : Inputs → List ℕ
+gates-after x =
+    let new = over (completed (x .limit) (polynomials x)) (x .order) (x .gates) in
+    kept-or (refusal x) (x .gates) new
+
+unfoldable pub terms-after : Inputs → List ℕ
+terms-after x =
+    let new = over (completed (x .limit) (polynomials x)) (map length (drop 1 (polynomials x))) (x .terms) in
+    kept-or (refusal x) (x .terms) new
+
+-- the permitted outcome of the judge: its answer and every lent buffer at exit
+pub record Judged (x : Inputs) (r : Answer) (store scratch gates terms : List ℕ) : Type 0 where
+  pub said : says r ≡ judging x
+  pub store-words : store ≡ store-after x
+  pub scratch-words : scratch ≡ scratch-after x
+  pub gate-records : gates ≡ gates-after x
+  pub term-records : terms ≡ terms-after x

@@ -1,0 +1,14 @@
+-- The rules of document 01, as definitions that compute.
+pub mod Each
+pub mod Says
+pub mod Limits
+pub mod Netlist
+pub mod Values
+pub mod Product
+pub mod Polynomial
+pub mod Steps
+pub mod Judging
+pub mod Text
+pub mod Reading
+pub mod Desk
+pub mod Bench

@@ -1,0 +1,80 @@
+-- The start polynomial, a step, and the polynomials after every number of steps.
+use mathlib.Core.Bool.{Bool, true, false, not, xor, cond, _||_, _&&_}
+use mathlib.Core.List.{List, [], _∷_, _++_}
+use Prim.Native.Nat.{ℕ, zero, suc, _+_, _-_, _*_, _/_, _%_, _^_}
+use lib.Dec.{leb, ltb, eqb}
+use lib.ListN.{length, getD}
+use Rattle.rules.specs.Each.{each, joined}
+use Rattle.rules.specs.Netlist.{gate, output, rhs0, rhs1, reads}
+use Rattle.rules.specs.Values.{width, bit}
+use Rattle.rules.specs.Product.{Kind, plain, signed, truncated, outputs-of}
+use Rattle.rules.specs.Polynomial.{Term, Polynomial, gather, times-literal}
+use Rattle.rules.specs.declared.counts.Counts.{Counts}
+
+-- 2^l for the outputs of a block
+unfoldable pub modulus : Kind → Counts → ℕ
+modulus kind c = 2 ^ outputs-of kind (width c)
+
+-- the sign of a_i b_j in the product: below 0 when exactly one of i, j is n - 1 in two's complement
+unfoldable pub below-zero : Kind → ℕ → ℕ → ℕ → Bool
+below-zero plain n i j = false
+below-zero signed n i j = xor (eqb (suc i) n) (eqb (suc j) n)
+below-zero truncated n i j = false
+
+-- minus 2^(i+j) a_i b_j, or plus where the product's sign is minus; a_i is variable 1 + i, b_j variable n + 1 + j
+unfoldable pub product-term : Kind → ℕ → ℕ → ℕ → ℕ → Term
+product-term kind m n i j =
+    (cond (below-zero kind n i j) (2 ^ (i + j) % m) (m - 2 ^ (i + j) % m), 2 ^ (1 + i) + 2 ^ (n + 1 + j))
+
+-- the sum of 2^i times output i, minus the product specification; not yet gathered
+unfoldable pub start-terms : Kind → Counts → List ℕ → Polynomial
+start-terms kind c table =
+    joined (c .o) (λ i. times-literal (modulus kind c) (output table i) ((2 ^ i, 0) ∷ []))
+    ++ joined (width c) (λ i. joined (width c) (λ j. product-term kind (modulus kind c) (width c) i j ∷ []))
+
+-- the start polynomial
+unfoldable pub start : Kind → Counts → List ℕ → Polynomial
+start kind c table = gather (modulus kind c) (start-terms kind c table)
+
+-- the first where v is not in the set, the second where it is
+unfoldable pub where-held : ℕ → Polynomial → Polynomial → Polynomial
+where-held zero without held = without
+where-held (suc k) without held = held
+
+-- a term, with v replaced by the product of the literals x and y where it holds v
+unfoldable pub replaced : ℕ → ℕ → ℕ → ℕ → Term → Polynomial
+replaced m v x y t =
+    where-held (bit (t .1) v) (t ∷ []) (times-literal m x (times-literal m y ((t .0, t .1 - 2 ^ v) ∷ [])))
+
+-- every term so replaced; not yet gathered
+unfoldable pub all-replaced : ℕ → ℕ → ℕ → ℕ → Polynomial → Polynomial
+all-replaced m v x y [] = []
+all-replaced m v x y (t ∷ p) = replaced m v x y t ++ all-replaced m v x y p
+
+-- a step of gate v
+unfoldable pub step : ℕ → Counts → List ℕ → ℕ → Polynomial → Polynomial
+step m c table v p = gather m (all-replaced m v (rhs0 c table v) (rhs1 c table v) p)
+
+-- p, and the polynomials after 1, 2, .. steps of the order from it, with no limit
+unfoldable pub trail : ℕ → Counts → List ℕ → Polynomial → List ℕ → List Polynomial
+trail m c table p [] = p ∷ []
+trail m c table p (v ∷ order) = p ∷ trail m c table (step m c table v p) order
+
+-- the polynomials after 0, 1, 2, .. steps from the start
+unfoldable pub run : Kind → Counts → List ℕ → List ℕ → List Polynomial
+run kind c table order = trail (modulus kind c) c table (start kind c table) order
+
+-- the polynomial after k steps
+unfoldable pub after : Kind → Counts → List ℕ → List ℕ → ℕ → Polynomial
+after kind c table order k = getD (run kind c table order) k []
+
+-- how often v stands in an order
+unfoldable pub times-named : ℕ → List ℕ → ℕ
+times-named v [] = 0
+times-named v (w ∷ order) = cond (eqb w v) 1 0 + times-named v order
+
+-- an order has each gate exactly once, after every gate that reads it
+unfoldable pub honest : Counts → List ℕ → List ℕ → Bool
+honest c table order =
+    each (c .a) (λ k. eqb (times-named (gate c k) order) 1)
+    && each (length order) (λ j. each (length order) (λ k. ltb j k || not (reads c table (getD order j 0) (getD order k 0))))

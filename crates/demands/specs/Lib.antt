@@ -1,0 +1,5 @@
+-- What the user asked for, stated over the rules.
+pub mod Refusals
+pub mod Netlists
+pub mod Answers
+pub mod Polynomials

@@ -2,3 +2,4 @@
 pub mod Indices
 pub mod Terms
 pub mod Gathered
+pub mod OneOutcome

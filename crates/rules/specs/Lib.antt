@@ -12,3 +12,4 @@ pub mod Text
 pub mod Reading
 pub mod Desk
 pub mod Bench
+pub mod Cases

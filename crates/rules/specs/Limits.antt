@@ -1,5 +1,5 @@
 -- The least and the most of what is taken, and what the maker of limits answers.
-use mathlib.Core.Path.{_≡_, sym, _∙_}
+use mathlib.Core.Path.{_≡_}
 use mathlib.Core.Bool.{Bool, _||_}
 use mathlib.Core.List.{List, [], _∷_}
 use Prim.Native.Nat.{ℕ, zero, suc}
@@ -68,7 +68,3 @@ making t m s =
 -- the permitted outcome of the maker, from term limit, M and steps
 pub record Makes (t m s : ℕ) (r : Made) : Type 0 where
   pub said : made-says r ≡ making t m s
-
--- two permitted outcomes say the same
-pub makes-one : {t m s : ℕ} {r q : Made} → Makes t m s r → Makes t m s q → made-says r ≡ made-says q
-makes-one x y = x .said ∙ sym (y .said)

@@ -1,5 +1,5 @@
 -- The three readings: operands, outputs, and the wanted word.
-use mathlib.Core.Path.{_≡_, sym, _∙_}
+use mathlib.Core.Path.{_≡_}
 use mathlib.Core.Bool.{Bool, true, false, not, xor, cond, _||_}
 use mathlib.Core.List.{List, [], _∷_}
 use Prim.Native.Nat.{ℕ, zero, suc, _+_, _-_, _*_, _/_, _%_, _^_}
@@ -64,7 +64,3 @@ wanting kind n a b =
 -- the permitted outcome of asking for the wanted word; nothing is lent
 pub record Wanted (kind n a b : ℕ) (r : Word) : Type 0 where
   pub said : word-says r ≡ wanting kind n a b
-
--- two permitted outcomes say the same
-pub wanted-one : {kind n a b : ℕ} {r q : Word} → Wanted kind n a b r → Wanted kind n a b q → word-says r ≡ word-says q
-wanted-one x y = x .said ∙ sym (y .said)

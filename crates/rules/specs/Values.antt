@@ -1,5 +1,5 @@
 -- The values of a netlist's variables for one operand pair, and the word that its outputs show.
-use mathlib.Core.Path.{_≡_, sym, _∙_}
+use mathlib.Core.Path.{_≡_}
 use mathlib.Core.Bool.{Bool}
 use mathlib.Core.List.{List, [], _∷_, _++_}
 use Prim.Native.Nat.{ℕ, zero, suc, _+_, _-_, _*_, _/_, _%_, _^_}
@@ -66,7 +66,3 @@ evaluating c table a b =
 -- the permitted outcome of the evaluator, from counts, table and two operand words; it is lent nothing that it may change
 pub record Evaluated (c : Counts) (table : List ℕ) (a b : ℕ) (r : Word) : Type 0 where
   pub said : word-says r ≡ evaluating c table a b
-
--- two permitted outcomes say the same
-pub evaluated-one : {c : Counts} {table : List ℕ} {a b : ℕ} {r q : Word} → Evaluated c table a b r → Evaluated c table a b q → word-says r ≡ word-says q
-evaluated-one x y = x .said ∙ sym (y .said)

@@ -3,3 +3,4 @@ pub mod Refusals
 pub mod Netlists
 pub mod Answers
 pub mod Polynomials
+pub mod StandIns

@@ -1,0 +1,151 @@
+-- The values of a netlist's variables: how many, that they are digits, the inputs' and the gates'.
+use mathlib.Core.Path.{_≡_, refl, sym, _∙_}
+use mathlib.Core.List.{List, [], _∷_, _++_}
+use mathlib.Core.Logic.{⊎-elim}
+use Prim.Native.Nat.{ℕ, zero, suc, _+_, _-_, _*_, _<_, _≤_}
+use native.Mathlib.Nat.{eq-or-lt-of-le, zero-mul, one-mul}
+use native.Mathlib.Numerals.{one-add}
+use native.Mathlib.Omega.{arith}
+use lib.ListN.{length, getD, length-append, List·getD-append}
+use lib.Seq.{getD-at, getD-append-add}
+use Rattle.rules.specs.Each.{listed}
+use Rattle.rules.specs.Netlist.{variable, inverted, gate, rhs0, rhs1}
+use Rattle.rules.specs.Values.{width, bit, turned, literal-value, input-values, gate-value, values-to, values}
+use Rattle.rules.proofs.Indices.{length-listed, getD-listed}
+use Rattle.rules.specs.declared.counts.Counts.{Counts}
+use Rattle.demands.proofs.Sound.{RightCounts, SoundTable}
+use Rattle.demands.proofs.Value.{Digits, digit-at}
+
+-- digits behind digits
+pub digits-append : (us vs : List ℕ) → Digits us → Digits vs → Digits (us ++ vs)
+digits-append [] vs d e = e
+digits-append (x ∷ us) vs d e = (d .0, digits-append us vs (d .1) e)
+
+-- the bits of a number are digits
+digits-bits : (n x : ℕ) → Digits (listed n (bit x))
+unfolding listed bit
+digits-bits zero x = tt
+digits-bits (suc n) x = digits-append (listed n (bit x)) (bit x n ∷ []) (digits-bits n x) (omega arith, tt)
+
+-- a digit or 1 less it is a digit
+turned-digit : (n x : ℕ) → x < 2 → turned n x < 2
+unfolding turned
+turned-digit zero x h = h
+turned-digit (suc k) x h = omega arith
+
+-- the value of a literal is a digit
+pub literal-digit : (vs : List ℕ) (x : ℕ) → Digits vs → literal-value vs x < 2
+unfolding literal-value
+literal-digit vs x d = turned-digit (inverted x) (getD vs (variable x) 0) (digit-at vs d (variable x))
+
+-- the product of two digits is a digit
+pub product-digit : (x y : ℕ) → x < 2 → y < 2 → x * y < 2
+product-digit zero y h k = rw zero-mul (omega arith)
+product-digit (suc zero) y h k = rw one-mul k
+product-digit (suc (suc x)) y h k = absurd (omega arith)
+
+-- a literal has the same value in two lists that agree on its variable
+pub literal-same : (us vs : List ℕ) (x : ℕ) → getD us (variable x) 0 ≡ getD vs (variable x) 0 → literal-value us x ≡ literal-value vs x
+unfolding literal-value
+literal-same us vs x e = rw e
+
+module _ (n a b : ℕ) where
+  -- the inputs have 2n + 1 values, with the false one
+  length-inputs : length (input-values n a b) ≡ 2 * n + 1
+  unfolding input-values
+  length-inputs = simp (length-append, length-listed) (omega arith)
+
+  -- they are digits
+  digits-inputs : Digits (input-values n a b)
+  unfolding input-values
+  digits-inputs = digits-append (0 ∷ listed n (bit a)) (listed n (bit b)) (omega arith, digits-bits n a) (digits-bits n b)
+
+  -- the first of them is 0
+  input-false : getD (input-values n a b) 0 0 ≡ 0
+  unfolding input-values
+  input-false = refl
+
+  -- then come the bits of a
+  input-first : (i : ℕ) → i < n → getD (input-values n a b) (1 + i) 0 ≡ bit a i
+  unfolding input-values
+  input-first i l =
+      rw one-add
+      (List·getD-append (listed n (bit a)) (listed n (bit b)) 0 i (rw length-listed l) ∙ getD-listed n (bit a) 0 i l)
+
+  -- and then those of b
+  input-second : (i : ℕ) → i < n → getD (input-values n a b) (n + 1 + i) 0 ≡ bit b i
+  unfolding input-values
+  input-second i l =
+      let place : n + 1 + i ≡ suc (length (listed n (bit a)) + i) = rw length-listed (omega arith) in
+      rw place (getD-append-add (listed n (bit a)) (listed n (bit b)) i 0 ∙ getD-listed n (bit b) 0 i l)
+
+module _ (c : Counts) (table : List ℕ) (a b : ℕ) where
+  -- how many values the inputs and the first gates have
+  length-values-to : (k : ℕ) → length (values-to c table a b k) ≡ 2 * width c + 1 + k
+  unfolding values-to
+  length-values-to zero = length-inputs (width c) a b ∙ omega arith
+  length-values-to (suc k) = simp (length-append, length-values-to k) (omega arith)
+
+  -- they are digits
+  digits-values-to : (k : ℕ) → Digits (values-to c table a b k)
+  unfolding values-to gate-value
+  digits-values-to zero = digits-inputs (width c) a b
+  digits-values-to (suc k) =
+      let before = values-to c table a b k in
+      let digits = digits-values-to k in
+      digits-append before (gate-value c table before (gate c k) ∷ []) digits
+      (product-digit _ _ (literal-digit before (rhs0 c table (gate c k)) digits) (literal-digit before (rhs1 c table (gate c k)) digits), tt)
+
+  -- the values of more gates leave those before
+  values-kept : (k n v : ℕ) → k ≤ n → v < 2 * width c + 1 + k → getD (values-to c table a b n) v 0 ≡ getD (values-to c table a b k) v 0
+  unfolding values-to
+  values-kept k zero v h l = let none : k ≡ 0 = omega arith in rw none
+  values-kept k (suc n) v h l =
+      ⊎-elim
+      (λ (e : k ≡ suc n). rw e)
+      (λ (e : k < suc n).
+      List·getD-append (values-to c table a b n) _ 0 v (rw length-values-to (omega arith)) ∙ values-kept k n v (omega arith) l)
+      (eq-or-lt-of-le h)
+
+  -- the values are digits
+  pub values-digits : Digits (values c table a b)
+  unfolding values
+  values-digits = digits-values-to (c .a)
+
+  -- variable 0 is false
+  pub values-false : getD (values c table a b) 0 0 ≡ 0
+  unfolding values values-to
+  values-false = values-kept 0 (c .a) 0 (omega arith) (omega arith) ∙ input-false (width c) a b
+
+  -- variables 1 to n are the first operand's bits
+  pub values-first : (i : ℕ) → i < width c → getD (values c table a b) (1 + i) 0 ≡ bit a i
+  unfolding values values-to
+  values-first i l = values-kept 0 (c .a) (1 + i) (omega arith) (omega arith) ∙ input-first (width c) a b i l
+
+  -- variables n + 1 to 2n are the second operand's bits
+  pub values-second : (i : ℕ) → i < width c → getD (values c table a b) (width c + 1 + i) 0 ≡ bit b i
+  unfolding values values-to
+  values-second i l = values-kept 0 (c .a) (width c + 1 + i) (omega arith) (omega arith) ∙ input-second (width c) a b i l
+
+  -- there is a value for each variable
+  pub values-length : RightCounts c → length (values c table a b) ≡ c .m + 1
+  unfolding values
+  values-length right = length-values-to (c .a) ∙ omega arith
+
+  -- a gate's value is the product of its literals' values
+  pub values-gate : RightCounts c → SoundTable c table → (v : ℕ) → c .i < v → v ≤ c .m
+      → getD (values c table a b) v 0 ≡ literal-value (values c table a b) (rhs0 c table v) * literal-value (values c table a b) (rhs1 c table v)
+  unfolding values values-to gate-value gate
+  values-gate right sound v above below =
+      let k = v - (c .i + 1) in
+      let own : c .i + 1 + k ≡ v = omega arith in
+      let before = values-to c table a b k in
+      let facts = sound .gates v above (omega arith) in
+      let made : getD (values-to c table a b (suc k)) v 0 ≡ gate-value c table before (c .i + 1 + k) =
+      getD-at before (gate-value c table before (c .i + 1 + k)) [] 0 v (length-values-to k ∙ omega arith)
+      in
+      let same : (x : ℕ) → variable x < v → literal-value before x ≡ literal-value (values-to c table a b (c .a)) x =
+      λ x l. literal-same before (values-to c table a b (c .a)) x (sym (values-kept k (c .a) (variable x) (omega arith) (omega arith)))
+      in
+      values-kept (suc k) (c .a) v (omega arith) (omega arith) ∙ made
+      ∙ rw (own, same (rhs0 c table v) (facts .first-variable), same (rhs1 c table v) (facts .second-variable))

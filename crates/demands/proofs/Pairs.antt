@@ -1,0 +1,138 @@
+-- An operand pair as the set of the variables that are 1 there, and the value of a polynomial of input variables at the pair.
+use mathlib.Core.Path.{_≡_, refl, ap, sym, _∙_}
+use mathlib.Core.List.{List, [], _∷_, _++_, append-assoc, append-nil}
+use mathlib.Core.Logic.{inl, inr}
+use Prim.Native.Nat.{ℕ, zero, suc, _+_, _*_, _/_, _%_, _^_, _<_}
+use native.Mathlib.Nat.{add-comm, mul-comm, mul-zero, mul-one, zero-add, pow-succ', mod-lt, mod-add-div}
+use native.Mathlib.Omega.{arith}
+use lib.Arith.{digits-lt}
+use lib.Count.{ones, ones-step, ones-cat}
+use lib.ListN.{length, length-append}
+use lib.Pow.{pow-pos, pow-add, shr-lt}
+use Rattle.rules.specs.Each.{listed}
+use Rattle.rules.specs.Values.{width, bit, input-values, gate-value, values-to, values}
+use Rattle.rules.specs.Polynomial.{Polynomial, Coefficients, hit, coefficient-at}
+use Rattle.rules.specs.Netlist.{gate}
+use Rattle.rules.specs.Judging.{pair-a, pair-b}
+use Rattle.rules.specs.declared.counts.Counts.{Counts}
+use Rattle.rules.proofs.Indices.{length-listed}
+use Rattle.rules.proofs.Terms.{hit-same, hit-other}
+use Rattle.demands.specs.Answers.{Before}
+use Rattle.demands.specs.Polynomials.{set-value, value}
+use Rattle.demands.proofs.AllSets.{AllSets, all-map}
+use Rattle.demands.proofs.EvenSets.{Even}
+use Rattle.demands.proofs.Follows.{Follows, follows-listed, follows-append, set-value-front, set-value-own, At, set-value-at}
+use Rattle.demands.proofs.Soonest.{NotAfter, Earlier}
+
+-- the set of the variables that are 1 for the operand pair a, b
+abbrev pub pair-set : ℕ → ℕ → ℕ → ℕ
+pair-set n a b = 2 * (a + 2 ^ n * b)
+
+-- it has as many variables as the pair has 1 bits
+pair-ones : (n a b : ℕ) → a < 2 ^ n → ones (pair-set n a b) ≡ ones a + ones b
+pair-ones n a b h =
+    let low : pair-set n a b % 2 ≡ 0 = omega arith in
+    let half : pair-set n a b / 2 ≡ b * 2 ^ n + a = omega (arith, mul-comm b (2 ^ n)) in
+    rw (ones-step, low, half, zero-add, ones-cat n b a h) (add-comm (ones b) (ones a))
+
+-- of two pairs the one that comes before has the set that comes before
+pub pair-earlier : (n a b d e : ℕ) → a < 2 ^ n → d < 2 ^ n → Before n a b d e → Earlier (pair-set n a b) (pair-set n d e)
+pair-earlier n a b d e h k (inl fewer) = inl (rw (pair-ones n a b h, pair-ones n d e k) fewer)
+pair-earlier n a b d e h k (inr less) = inr (rw (pair-ones n a b h, pair-ones n d e k) (less .0), omega arith)
+
+-- a pair's set is one of input variables
+pair-below : (n a b : ℕ) → a < 2 ^ n → b < 2 ^ n → pair-set n a b < 2 ^ suc (n + n)
+pair-below n a b h k =
+    let l : b * 2 ^ n + a < 2 ^ n * 2 ^ n = digits-lt k h in
+    omega (arith, mul-comm b (2 ^ n), pow-add 2 n n, pow-succ' 2 (n + n))
+
+-- the pair that is named for a set is an operand pair, and the set is its own
+pub record PairOf (n s : ℕ) : Type 0 where
+  pub first : pair-a n s < 2 ^ n
+  pub second : pair-b n s < 2 ^ n
+  pub set : pair-set n (pair-a n s) (pair-b n s) ≡ s
+
+-- so it is for every set of input variables
+pub pair-of : (n s : ℕ) → Even s → s < 2 ^ suc (n + n) → PairOf n s
+unfolding pair-a pair-b
+pair-of n s even below =
+    record {
+      first = mod-lt (s / 2) (pow-pos n);
+      second = shr-lt n n (omega (arith, pow-succ' 2 (n + n)));
+      set = omega (arith, mod-add-div (s / 2) (2 ^ n));
+    }
+
+-- there are as many values as inputs, and that of variable 0
+input-length : (n a b : ℕ) → length (input-values n a b) ≡ suc (n + n)
+unfolding input-values
+input-length n a b = simp (length-append, length-listed) (omega arith)
+
+-- the inputs' values are the digits of the pair's set
+input-follows : (n a b : ℕ) → a < 2 ^ n → Follows (input-values n a b) (pair-set n a b)
+unfolding input-values
+input-follows n a b h =
+    let n-bits : length (listed n (bit a)) ≡ n = length-listed n (bit a) in
+    let half : pair-set n a b / 2 ≡ a + 2 ^ n * b = omega arith in
+    let operands = follows-append (listed n (bit a)) (listed n (bit b)) a b (rw n-bits h) (follows-listed n a) (follows-listed n b) in
+    (omega arith, rw half (rw n-bits at operands))
+
+-- the values of the inputs stand first
+values-front : (c : Counts) (table : List ℕ) (a b k : ℕ) → (more : List ℕ) × (values-to c table a b k ≡ input-values (width c) a b ++ more)
+unfolding values-to
+values-front c table a b zero = ([], sym (append-nil (input-values (width c) a b)))
+values-front c table a b (suc k) =
+    let before = values-front c table a b k in
+    let last = gate-value c table (values-to c table a b k) (gate c k) ∷ [] in
+    (before .0 ++ last, ap (λ (list : List ℕ). list ++ last) (before .1) ∙ append-assoc (input-values (width c) a b) (before .0) last)
+
+module _ (c : Counts) (table : List ℕ) (a b : ℕ) where
+  -- a set of input variables has the value that it has at the inputs
+  inputs-decide : (t : ℕ) → t < 2 ^ suc (width c + width c) → set-value (values c table a b) t ≡ set-value (input-values (width c) a b) t
+  unfolding values
+  inputs-decide t h =
+      let front = values-front c table a b (c .a) in
+      rw (front .1) (set-value-front (input-values (width c) a b) (front .0) t (rw input-length h))
+
+  module _ (below-a : a < 2 ^ width c) (below-b : b < 2 ^ width c) where
+    -- the pair's set has the value 1
+    pair-own : set-value (values c table a b) (pair-set (width c) a b) ≡ 1
+    pair-own =
+        inputs-decide (pair-set (width c) a b) (pair-below (width c) a b below-a below-b)
+        ∙ set-value-own (input-values (width c) a b) (pair-set (width c) a b) (input-follows (width c) a b below-a)
+
+    -- another set of input variables has the value 0, or fewer variables
+    pair-at : (t : ℕ) → t < 2 ^ suc (width c + width c) → At (values c table a b) (pair-set (width c) a b) t
+    pair-at t h =
+        rw (inputs-decide t h)
+        (set-value-at (input-values (width c) a b) (pair-set (width c) a b) t
+        (rw input-length (pair-below (width c) a b below-a below-b))
+        (rw input-length h)
+        (input-follows (width c) a b below-a))
+
+    -- where no set comes before the pair's: the value is the coefficient of the pair's set
+    pub pair-value : (p : Polynomial) → AllSets (λ t. t < 2 ^ suc (width c + width c)) p → AllSets (NotAfter (pair-set (width c) a b)) p
+        → value (values c table a b) p ≡ coefficient-at p (pair-set (width c) a b)
+    unfolding value coefficient-at
+    pair-value [] inputs first = refl
+    pair-value (t ∷ p) inputs first = rw (pair-value p (inputs .1) (first .1), go (pair-at (t .1) (inputs .0)))
+      where
+        go : At (values c table a b) (pair-set (width c) a b) (t .1)
+            → t .0 * set-value (values c table a b) (t .1) ≡ hit (pair-set (width c) a b) (t .1) (t .0)
+        go (inl none) =
+            let other : t .1 ≡ pair-set (width c) a b → ⊥ = λ e. omega (arith, sym pair-own ∙ ap (set-value (values c table a b)) (sym e) ∙ none) in
+            rw (none, mul-zero, hit-other (t .1) (pair-set (width c) a b) (t .0) other)
+        go (inr (inl same)) = rw (hit-same (t .1) (pair-set (width c) a b) (t .0) same, same, pair-own, mul-one)
+        go (inr (inr fewer)) = absurd (omega (arith, first .0 .0))
+
+-- the coefficient at each set of a polynomial is not 0
+pub coefficient-positive : (m : ℕ) (p : Polynomial) → Coefficients m p → AllSets (λ s. 0 < coefficient-at p s) p
+unfolding coefficient-at
+coefficient-positive m [] k = tt
+coefficient-positive m (t ∷ p) k =
+    (rw (hit-same (t .1) (t .1) (t .0) refl) (omega (arith, k .0)), all-map p (λ s h. omega arith) (coefficient-positive m p (k .2)))
+
+-- the coefficient at any other set is 0
+pub coefficient-none : (u : ℕ) (p : Polynomial) → AllSets (λ s. s ≡ u → ⊥) p → coefficient-at p u ≡ 0
+unfolding coefficient-at
+coefficient-none u [] other = refl
+coefficient-none u (t ∷ p) other = rw (hit-other (t .1) u (t .0) (other .0), zero-add) (coefficient-none u p (other .1))

@@ -1,0 +1,145 @@
+-- The published specifications, gathered modulo 2^l, are the start polynomial.
+use mathlib.Core.Path.{_≡_, refl, ap, sym, _∙_}
+use mathlib.Core.List.{List, [], _∷_, _++_, append-nil}
+use Prim.Native.Nat.{ℕ, zero, suc, _+_, _-_, _*_, _%_, _^_, _<_, _≤_}
+use native.Mathlib.Nat.{add-comm, add-zero, add-mul, mul-add, mul-assoc, mul-zero, zero-add, add-mod-mod, mul-mod-right, one-le-pow, two-pow-succ}
+use native.Mathlib.Omega.{arith}
+use lib.Pow.{pow-add}
+use Rattle.rules.specs.Each.{sum, joined}
+use Rattle.rules.specs.Netlist.{variable, inverted, output}
+use Rattle.rules.specs.Values.{width}
+use Rattle.rules.specs.Product.{Kind, plain, signed, truncated, outputs-of}
+use Rattle.rules.specs.Polynomial.{Polynomial, hit, with-variable, times-variable, times-literal}
+use Rattle.rules.specs.Steps.{modulus, start-terms, start}
+use Rattle.rules.proofs.Indices.{sum-same}
+use Rattle.rules.proofs.Gathered.{gather-same}
+use Rattle.demands.specs.Polynomials.{times, minus, plain-operand, signed-operand, plain-outputs, specification, Published}
+use Rattle.demands.proofs.Sound.{right-counts}
+use Rattle.demands.proofs.Remainders.{same-add, same-mul, opposite, same-cancel, sum-mod, sum-factor}
+use Rattle.demands.proofs.Weighed.{weighed, weighed-coefficient, weighed-append, weighed-joined, weighed-one, weighed-times, weighed-minus}
+use Rattle.demands.proofs.Operands.{operand-sum, product-sum, modulus-positive, plain-sum, truncated-sum, weighed-plain-operand, weighed-signed-operand, weighed-start}
+
+-- the product of two operands weighed
+weighed-operands : (kind : Kind) (m n : ℕ) (weight : ℕ → ℕ) (operand : ℕ → Polynomial)
+    → ((v : ℕ) (weight : ℕ → ℕ) → weighed weight (operand v) ≡ operand-sum kind m n (λ i. weight (2 ^ (v + i))))
+    → weighed weight (minus m (times (operand 1) (operand (n + 1)))) ≡ (m - 1) * product-sum kind m n weight
+unfolding product-sum
+weighed-operands kind m n weight operand law =
+    rw (weighed-minus weight m (times (operand 1) (operand (n + 1))), weighed-times weight (operand 1) (operand (n + 1)), law 1)
+    (simp (law (n + 1)))
+
+-- a literal times half of m has only multiples of that half
+half-turned : (m half : ℕ) (weight : ℕ → ℕ) (v k : ℕ) → half + half ≡ m
+    → (y : ℕ) × (weighed weight (times-variable m v k (half, 0)) ≡ half * y)
+unfolding weighed times-variable
+half-turned m half weight zero zero e = (0, sym (mul-zero half))
+half-turned m half weight zero (suc k) e = (weight 0, add-zero _)
+half-turned m half weight (suc v) zero e = (_, add-zero _)
+half-turned m half weight (suc v) (suc k) e =
+    let less : m - half ≡ half = omega arith in
+    (weight 0 + weight (with-variable 0 (suc v)), rw (less, add-zero) (sym (mul-add half _ _)))
+
+-- so the top output may be taken with either sign
+top-output : (m l x : ℕ) (weight : ℕ → ℕ) → 0 < m → 2 ^ l + 2 ^ l ≡ m
+    → weighed weight (minus m (times-literal m x ((2 ^ l, 0) ∷ []))) % m ≡ weighed weight (times-literal m x ((2 ^ l, 0) ∷ [])) % m
+unfolding times-literal
+top-output m l x weight positive e =
+    let t = half-turned m (2 ^ l) weight (variable x) (inverted x) e in
+    rw (append-nil (times-variable m (variable x) (inverted x) (2 ^ l, 0)), weighed-minus weight m (times-variable m (variable x) (inverted x) (2 ^ l, 0)), t .1)
+    (same-cancel m positive ((m - 1) * (2 ^ l * t .0)) (2 ^ l * t .0) (2 ^ l * t .0)
+    (opposite m positive (2 ^ l * t .0) ∙ sym (rw (← add-mul (2 ^ l) (2 ^ l) (t .0), e) (mul-mod-right m (t .0)))))
+
+-- a sum whose later numbers are 0 modulo m
+sum-cut : (m k d : ℕ) (f : ℕ → ℕ) → ((j : ℕ) → k ≤ j → f j % m ≡ 0) → sum k f % m ≡ sum (d + k) f % m
+unfolding sum
+sum-cut m k zero f h = rw (zero-add k)
+sum-cut m k (suc d) f h =
+    let e : suc d + k ≡ suc (d + k) = omega arith in
+    rw (e, ← add-mod-mod (sum (d + k) f) (f (d + k)) m, h (d + k) (omega arith), add-zero) (sum-cut m k d f h)
+
+-- a multiple of 2^i and 2^j is 0 modulo 2^n where i + j is n or more
+power-out : (n i j x : ℕ) → n ≤ i + j → (2 ^ i * (2 ^ j * x)) % 2 ^ n ≡ 0
+power-out n i j x h =
+    let e : i + j ≡ n + (i + j - n) = omega arith in
+    rw (← mul-assoc, ← pow-add 2 i j, e, pow-add, mul-assoc, mul-mod-right)
+
+-- a term with the coefficient 2^(i+j) weighed
+power-one : (weight : ℕ → ℕ) (i j s : ℕ) → weighed weight ((2 ^ (i + j), s) ∷ []) ≡ 2 ^ i * (2 ^ j * weight s)
+power-one weight i j s = rw (weighed-one weight (2 ^ (i + j)) s, pow-add 2 i j, mul-assoc)
+
+-- the truncated product weighed: what is left out is 0 modulo 2^n
+weighed-truncated : (n : ℕ) (weight : ℕ → ℕ)
+    → weighed weight (joined n (λ i. joined (n - i) (λ j. (2 ^ (i + j), 2 ^ (1 + i) + 2 ^ (n + 1 + j)) ∷ []))) % 2 ^ n
+    ≡ product-sum truncated (2 ^ n) n weight % 2 ^ n
+unfolding product-sum
+weighed-truncated n weight =
+    rw (weighed-joined weight n _, truncated-sum (2 ^ n) n _) (sum-mod (2 ^ n) n _ _ row)
+  where
+    row : (i : ℕ) → i < n → weighed weight (joined (n - i) (λ j. (2 ^ (i + j), 2 ^ (1 + i) + 2 ^ (n + 1 + j)) ∷ [])) % 2 ^ n
+        ≡ (2 ^ i * operand-sum truncated (2 ^ n) n (λ j. weight (2 ^ (1 + i) + 2 ^ (n + 1 + j)))) % 2 ^ n
+    row i l =
+        let whole : i + (n - i) ≡ n = omega arith in
+        rw (
+          weighed-joined weight (n - i) _,
+          truncated-sum (2 ^ n) n _,
+          ← sum-factor n (2 ^ i),
+          sum-same (n - i) _ _ (λ j k. power-one weight i j (2 ^ (1 + i) + 2 ^ (n + 1 + j))),
+        )
+        (rw whole at (sum-cut (2 ^ n) (n - i) i _ (λ j k. power-out n i j (weight (2 ^ (1 + i) + 2 ^ (n + 1 + j))) (omega arith))))
+
+-- the outputs in two's complement weigh as the plain outputs
+signed-outputs : (m l : ℕ) (table : List ℕ) (weight : ℕ → ℕ) → 0 < m → 2 ^ l + 2 ^ l ≡ m
+    → weighed weight (minus m (times-literal m (output table l) ((2 ^ l, 0) ∷ [])) ++ plain-outputs m table l) % m
+    ≡ weighed weight (plain-outputs m table (suc l)) % m
+unfolding plain-outputs joined
+signed-outputs m l table weight positive e =
+    rw (
+      weighed-append weight (minus m (times-literal m (output table l) ((2 ^ l, 0) ∷ []))) (plain-outputs m table l),
+      weighed-append weight (plain-outputs m table l) (times-literal m (output table l) ((2 ^ l, 0) ∷ [])),
+      add-comm (weighed weight (plain-outputs m table l)),
+    )
+    (same-add m _ _ _ _ (top-output m l (output table l) weight positive e) refl)
+
+-- a specification weighed: the outputs less the product of the operands' bits
+specified : (kind : Kind) (n : ℕ) (table : List ℕ) (m : ℕ) (weight : ℕ → ℕ) → 0 < n → m ≡ 2 ^ outputs-of kind n
+    → weighed weight (specification kind m n table) % m
+    ≡ (weighed weight (plain-outputs m table (outputs-of kind n)) + (m - 1) * product-sum kind m n weight) % m
+unfolding specification outputs-of
+specified plain n table m weight h e =
+    rw (
+      weighed-append weight (plain-outputs m table (2 * n)) _,
+      weighed-operands plain m n weight (plain-operand n)
+          (λ v w. weighed-plain-operand w n v ∙ sym (plain-sum m n (λ i. w (2 ^ (v + i))))),
+    )
+specified signed zero table m weight h e = absurd (omega arith)
+specified signed (suc k) table m weight h e =
+    let l = 2 * suc k - 1 in
+    let next : suc l ≡ 2 * suc k = omega arith in
+    let halves : 2 ^ l + 2 ^ l ≡ m = sym (two-pow-succ l) ∙ rw next (sym e) in
+    rw (
+      weighed-append weight (minus m (times-literal m (output table l) ((2 ^ l, 0) ∷ [])) ++ plain-outputs m table l) _,
+      weighed-operands signed m (suc k) weight (signed-operand m (suc k)) (λ v w. weighed-signed-operand w m k v),
+    )
+    (same-add m _ _ _ _
+    (signed-outputs m l table weight (omega (arith, one-le-pow l 2 (omega arith))) halves
+    ∙ ap (λ (x : ℕ). weighed weight (plain-outputs m table x) % m) next)
+    refl)
+specified truncated n table m weight h e =
+    rw (weighed-append weight (plain-outputs m table n) _, weighed-minus weight m _)
+    (same-add m _ _ _ _ refl (same-mul m _ _ _ _ refl (rw e (weighed-truncated n weight))))
+
+-- the published specifications are the start polynomial
+pub published : Published
+unfolding modulus start
+published kind c table right outputs =
+    gather-same m (specification kind m (width c) table) (start-terms kind c table) (modulus-positive kind c)
+    (λ u. rw (weighed-coefficient u (specification kind m (width c) table), weighed-coefficient u (start-terms kind c table)) (weighs (λ s. hit u s 1)))
+  where
+    m : ℕ
+    m = modulus kind c
+
+    weighs : (weight : ℕ → ℕ) → weighed weight (specification kind m (width c) table) % m ≡ weighed weight (start-terms kind c table) % m
+    weighs weight =
+        specified kind (width c) table m weight (omega (arith, right-counts c right)) refl
+        ∙ ap (λ (l : ℕ). (weighed weight (plain-outputs m table l) + (m - 1) * product-sum kind m (width c) weight) % m) (sym outputs)
+        ∙ sym (weighed-start kind c table weight)

@@ -1,0 +1,134 @@
+//! The real blocks, and their run as a command.
+
+use crate::desk::{answer_line, TABLE_WORDS};
+use crate::judge::{Answer, Question, Run};
+use crate::netlists::Made;
+use crate::orders;
+use crate::random::Random;
+use crate::reading::Reading;
+use crate::rules::Rules;
+use crate::text::read;
+use std::path::Path;
+
+/// A block with the reading and the operand bits that its name tells.
+#[derive(Clone, Debug)]
+pub struct Block {
+    pub name: String,
+    pub reading: Reading,
+    pub n: u32,
+    pub made: Made,
+}
+
+/// An order of steps with what is known of it.
+pub struct NamedOrder {
+    pub name: String,
+    pub is_honest: bool,
+    pub steps: Vec<u32>,
+}
+
+/// All blocks that came with the package, by name.
+pub fn all() -> Vec<Block> {
+    let folder = Path::new(env!("CARGO_MANIFEST_DIR")).join("blocks");
+    let entries = std::fs::read_dir(&folder).expect("the folder of blocks");
+    let mut names: Vec<String> = entries
+        .map(|entry| entry.expect("a folder entry").file_name())
+        .map(|name| name.to_string_lossy().into_owned())
+        .filter(|name| name.ends_with(".aag"))
+        .collect();
+    names.sort();
+    names.iter().map(|name| block(&folder, name)).collect()
+}
+
+fn block(folder: &Path, file: &str) -> Block {
+    let name = file.trim_end_matches(".aag");
+    let mark = name.rsplit('-').next().expect("a last part");
+    let text = std::fs::read(folder.join(file)).expect("a block's text");
+    let mut table = vec![0; TABLE_WORDS];
+    let counts = read(&text, &mut table).expect("a sound block");
+    table.truncate(counts.table_words() as usize);
+    Block {
+        name: name.to_string(),
+        reading: Reading::of_letter(mark.as_bytes()[0]).expect("a reading's letter"),
+        n: mark[1..].parse().expect("the operand bits"),
+        made: Made { counts, table },
+    }
+}
+
+/// The order M down to I + 1, and an honest and a shuffled one for each seed.
+pub fn orders_for(block: &Block, seeds: u64) -> Vec<NamedOrder> {
+    let mut list = vec![NamedOrder {
+        name: "falling".to_string(),
+        is_honest: true,
+        steps: orders::falling(block.made.counts),
+    }];
+    for seed in 1..=seeds {
+        let mut random = Random::new(seed);
+        list.push(NamedOrder {
+            name: format!("honest {seed}"),
+            is_honest: true,
+            steps: orders::honest(&mut random, &block.made.netlist()),
+        });
+        list.push(NamedOrder {
+            name: format!("shuffled {seed}"),
+            is_honest: false,
+            steps: orders::shuffled(&mut random, block.made.counts),
+        });
+    }
+    list
+}
+
+/// The order found by trying which gate leaves the fewest terms.
+pub fn thrifty_order(block: &Block, limit: u64) -> NamedOrder {
+    NamedOrder {
+        name: "thrifty".to_string(),
+        is_honest: true,
+        steps: orders::thrifty(&block.made.netlist(), block.reading, limit as usize),
+    }
+}
+
+/// A run of the judge on a block under its own reading, or the number of refusal.
+pub fn run(block: &Block, limit: u64, order: &[u32]) -> Result<Run, u32> {
+    let rules = Rules::of_document();
+    let Made { counts, table } = &block.made;
+    let kind = block.reading.kind();
+    let question = Question::checked(&rules, *counts, table, kind, limit, order)?;
+    Ok(question.run(&rules))
+}
+
+/// The most terms after any step completed.
+pub fn most_terms(run: &Run) -> u32 {
+    run.log.iter().map(|&(_, terms)| terms).max().unwrap_or(0)
+}
+
+/// A right block is never called different, and an honest order leaves nothing unfinished.
+pub fn is_believable(answer: &Answer, is_honest: bool) -> bool {
+    match answer {
+        Answer::Equal { .. } | Answer::OutOfRoom { .. } => true,
+        Answer::Unfinished { .. } => !is_honest,
+        Answer::Differs { .. } | Answer::Refused(_) => false,
+    }
+}
+
+/// Runs the blocks of more than six bits and prints a line for each order; says whether all is believable.
+pub fn run_larger(limit: u64, seeds: u64) -> bool {
+    let mut all_hold = true;
+    for block in all().into_iter().filter(|block| block.n > 6) {
+        let thrifty = thrifty_order(&block, limit);
+        for order in orders_for(&block, seeds).into_iter().chain([thrifty]) {
+            all_hold &= run_and_print(&block, limit, &order);
+        }
+    }
+    all_hold
+}
+
+fn run_and_print(block: &Block, limit: u64, order: &NamedOrder) -> bool {
+    let (answer, most) = match run(block, limit, &order.steps) {
+        Ok(run) => (run.answer, most_terms(&run)),
+        Err(number) => (Answer::Refused(number), 0),
+    };
+    let holds = is_believable(&answer, order.is_honest);
+    let mark = if holds { "" } else { "  WRONG" };
+    let line = answer_line(&answer);
+    println!("{} {}: {line} (most {most}){mark}", block.name, order.name);
+    holds
+}

@@ -1,0 +1,123 @@
+//! Cases for the evaluator of one operand pair.
+
+use super::texts::made_at_limits;
+use crate::netlists::{random_sound, Made};
+use crate::random::Random;
+use crate::rules::Rules;
+use crate::table::{evaluate_by, Counts};
+
+#[derive(Clone, Debug, PartialEq, Eq)]
+pub struct PairCase {
+    pub counts: Counts,
+    pub table: Vec<u32>,
+    pub a: u64,
+    pub b: u64,
+}
+
+impl PairCase {
+    pub fn seen(&self, rules: &Rules) -> Result<u64, u32> {
+        evaluate_by(rules, self.counts, &self.table, self.a, self.b)
+    }
+}
+
+/// Netlists at the limits, each also with one thing wrong, at a few pairs.
+pub fn edges() -> Vec<PairCase> {
+    let mut cases = Vec::new();
+    for made in made_at_limits().into_iter().chain(wrong_netlists()) {
+        for (a, b) in [(0, 0), (1, 2), (u64::MAX, 5), (6, u64::MAX)] {
+            let Made { counts, table } = made.clone();
+            cases.push(PairCase {
+                counts,
+                table,
+                a,
+                b,
+            });
+        }
+    }
+    cases
+}
+
+/// The AND netlist with one thing, or two, handed in wrong.
+pub fn wrong_netlists() -> Vec<Made> {
+    let right = Made::new(2, &[6, 0], &[(4, 2)]);
+    let tables: [&[u32]; 12] = [
+        &[6, 0, 4, 2],
+        &[7, 0, 4, 2],
+        &[8, 0, 4, 2],
+        &[6, u32::MAX, 4, 2],
+        &[6, 0, 2, 4],
+        &[6, 0, 6, 2],
+        &[6, 0, 7, 2],
+        &[6, 0, 6, 6],
+        &[6, 0, 4],
+        &[],
+        &[6, 0, 4, 2, u32::MAX],
+        &[1, 1, 1, 1],
+    ];
+    let mut list: Vec<Made> = tables
+        .into_iter()
+        .map(|table| Made {
+            table: table.to_vec(),
+            ..right.clone()
+        })
+        .collect();
+    for counts in wrong_counts(right.counts) {
+        list.push(Made {
+            counts,
+            ..right.clone()
+        });
+        list.push(Made {
+            counts,
+            table: vec![9, 9],
+        });
+    }
+    list
+}
+
+/// Counts of the AND netlist with one or two of them changed; some sums come out right only when they wrap.
+fn wrong_counts(right: Counts) -> Vec<Counts> {
+    let Counts { m, i, l, o, a } = right;
+    let high = u32::MAX;
+    let changed = [
+        (4, i, l, o, a),
+        (2, i, l, o, a),
+        (m, i, 1, o, a),
+        (m, i, l, 0, a),
+        (m, i, l, 1, a),
+        (m, i, l, 3, a),
+        (m, i, l, high, a),
+        (m, 0, l, o, a),
+        (m, 1, l, o, 2),
+        (m, 3, l, o, 0),
+        (m, i, l, o, 0),
+        (m, 4, l, o, high),
+        (m, high, l, o, 4),
+        (high, i, l, o, high - 2),
+    ];
+    changed
+        .into_iter()
+        .map(|(m, i, l, o, a)| Counts { m, i, l, o, a })
+        .collect()
+}
+
+/// A random sound netlist at a random pair of whole words, sometimes with one word changed.
+pub fn random(random: &mut Random) -> PairCase {
+    let inputs = 2 * (1 + random.below(32)) as u32;
+    let outputs = 1 + random.below(64) as u32;
+    let gates = random.below(40) as u32;
+    let Made { counts, mut table } = random_sound(random, inputs, outputs, gates);
+    if random.one_in(10) {
+        let at = random.below(table.len());
+        table[at] = random.below(2 * counts.m as usize + 4) as u32;
+    }
+    if random.one_in(10) {
+        table.push(random.word() as u32);
+    }
+    let (a, b) = (random.word(), random.word());
+    PairCase {
+        counts,
+        table,
+        a,
+        b,
+    }
+}

@@ -1,0 +1,124 @@
+//! The desk program: one netlist on standard input, one line on standard output.
+
+use crate::judge::{judge_by, Answer};
+use crate::orders;
+use crate::reading::Reading;
+use crate::rules::{self, DeskRules, Rules};
+use crate::table::Counts;
+use crate::text::read_by;
+use crate::words::Lent;
+
+/// The most words that O + 2A can be: 64 outputs, and 1,021 gates on 2 inputs.
+pub const TABLE_WORDS: usize = 2_106;
+
+/// The desk program's line, with its LF, for this input.
+pub fn desk(input: &[u8]) -> Vec<u8> {
+    desk_by(&Rules::of_document(), input)
+}
+
+pub fn desk_by(rules: &Rules, input: &[u8]) -> Vec<u8> {
+    let answer = judged(rules, input).unwrap_or_else(Answer::Refused);
+    let mut line = line_of(&rules.desk, &answer);
+    if rules.desk.line_has_its_end {
+        line.push('\n');
+    }
+    line.into_bytes()
+}
+
+/// The checks in their order: 13 by length, 9 for the kind line, 1 to 7, 13 for M, then judging.
+fn judged(rules: &Rules, input: &[u8]) -> Result<Answer, u32> {
+    let length = desk_limit(input.len() <= rules.desk.most_bytes);
+    if rules.desk.length_comes_before_kind {
+        length?;
+    }
+    let (reading, text) = kind_line(&rules.desk, input).ok_or(rules::KIND)?;
+    length?;
+    let mut table = [0; TABLE_WORDS];
+    let counts = read_by(rules, text, &mut table)?;
+    let variables = desk_limit(counts.m <= rules.desk.most_variables);
+    if rules.desk.variables_come_before_judging {
+        variables?;
+    }
+    let answer = answer_of(rules, counts, &table, reading);
+    if let Answer::Refused(number) = answer {
+        return Err(number);
+    }
+    variables?;
+    Ok(answer)
+}
+
+/// Refusal 13.
+fn desk_limit(holds: bool) -> Result<(), u32> {
+    if holds {
+        Ok(())
+    } else {
+        Err(rules::DESK)
+    }
+}
+
+/// The reading that line 1 names, and the netlist text after it.
+fn kind_line<'a>(rules: &DeskRules, input: &'a [u8]) -> Option<(Reading, &'a [u8])> {
+    let reading = Reading::of_letter(*input.first()?)?;
+    match input.get(1) {
+        Some(b'\n') => Some((reading, &input[2..])),
+        None if !rules.kind_line_needs_its_end => Some((reading, &[])),
+        _ => None,
+    }
+}
+
+fn answer_of(rules: &Rules, counts: Counts, table: &[u32], reading: Reading) -> Answer {
+    let mut order = orders::falling(counts);
+    if !rules.desk.order_falls {
+        order.reverse();
+    }
+    let words = rules.desk.limit as usize * counts.term_words();
+    let lent = Lent {
+        store: &mut vec![0; words],
+        scratch: &mut vec![0; 4 * words],
+        gates: &mut vec![0; order.len()],
+        terms: &mut vec![0; order.len()],
+    };
+    let kind = reading.kind();
+    judge_by(rules, counts, table, kind, rules.desk.limit, &order, lent)
+}
+
+/// An answer as the desk program prints it, without the line's end.
+pub fn answer_line(answer: &Answer) -> String {
+    line_of(&Rules::of_document().desk, answer)
+}
+
+fn line_of(rules: &DeskRules, answer: &Answer) -> String {
+    let (letter, numbers) = match *answer {
+        Answer::Equal { steps, terms } => ('E', vec![steps.into(), terms.into()]),
+        Answer::Differs {
+            steps,
+            terms,
+            a,
+            b,
+            got,
+            wanted,
+        } => {
+            let shown = if rules.got_comes_before_wanted {
+                [got, wanted]
+            } else {
+                [wanted, got]
+            };
+            let numbers = vec![steps.into(), terms.into(), a, b, shown[0], shown[1]];
+            ('D', numbers)
+        }
+        Answer::OutOfRoom { step, terms } => ('R', vec![step.into(), terms.into()]),
+        Answer::Unfinished { steps, terms } => ('U', vec![steps.into(), terms.into()]),
+        Answer::Refused(number) => ('X', vec![number.into()]),
+    };
+    line(rules, letter, &numbers)
+}
+
+/// A letter and decimal numbers with no leading zero, one space before each number.
+fn line(rules: &DeskRules, letter: char, numbers: &[u64]) -> String {
+    let mut line = String::from(letter);
+    for number in numbers {
+        line += if rules.numbers_are_bare { " " } else { " 0" };
+        line += &number.to_string();
+    }
+    line
+}

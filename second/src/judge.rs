@@ -1,0 +1,271 @@
+//! Judging: the checks, the run of steps, and the answer.
+
+use crate::polynomial::Polynomial;
+use crate::reading::Reading;
+use crate::rules::{self, JudgingRules, Rules};
+use crate::table::{Counts, Netlist};
+use crate::words::{self, Lent};
+
+#[derive(Clone, Copy, Debug, PartialEq, Eq)]
+pub enum Answer {
+    /// E: the last polynomial is zero.
+    Equal { steps: u32, terms: u32 },
+    /// D: the last polynomial is not zero and has input variables only, or is a constant.
+    Differs {
+        steps: u32,
+        terms: u32,
+        a: u64,
+        b: u64,
+        got: u64,
+        wanted: u64,
+    },
+    /// R: more than T terms, first after this step (0 is the start).
+    OutOfRoom { step: u32, terms: u32 },
+    /// U: a gate variable occurs at the end.
+    Unfinished { steps: u32, terms: u32 },
+    /// X: a number of refusal.
+    Refused(u32),
+}
+
+/// What a run of steps ends with.
+#[derive(Clone, Debug)]
+pub struct Run {
+    pub answer: Answer,
+    /// The last polynomial of at most T terms; none when the start had no room.
+    pub held: Option<Polynomial>,
+    /// A gate and the terms after it, for each step completed.
+    pub log: Vec<(u32, u32)>,
+}
+
+/// What is judged, once nothing is left to refuse.
+#[derive(Clone, Copy, Debug)]
+pub struct Question<'a> {
+    pub netlist: Netlist<'a>,
+    pub reading: Reading,
+    pub limit: u64,
+    pub order: &'a [u32],
+}
+
+impl<'a> Question<'a> {
+    /// The checks 2, 3, 8, 9, 10 and 11; 12 is about the lent words.
+    pub fn checked(
+        rules: &Rules,
+        counts: Counts,
+        table: &'a [u32],
+        kind: u32,
+        limit: u64,
+        order: &'a [u32],
+    ) -> Result<Question<'a>, u32> {
+        let netlist = Netlist::of(rules, counts, table)?;
+        let soundness = netlist.soundness(&rules.table);
+        let reading = reading_of(&rules.judging, counts, kind);
+        if rules.judging.soundness_comes_before_kind {
+            soundness?;
+        }
+        let reading = reading?;
+        soundness?;
+        let room = limit_is_allowed(&rules.judging, limit);
+        let gates = order_is_allowed(&rules.judging, counts, order);
+        if rules.judging.limit_comes_before_order {
+            room?;
+        }
+        gates?;
+        room?;
+        Ok(Question {
+            netlist,
+            reading,
+            limit,
+            order,
+        })
+    }
+
+    /// Takes the steps of the order while there is room.
+    pub fn run(&self, rules: &Rules) -> Run {
+        let start = Polynomial::start(&rules.judging, &self.netlist, self.reading);
+        if !self.has_room(&rules.judging, &start) {
+            return full_start(&rules.judging, &start);
+        }
+        let mut held = start;
+        let mut log = Vec::new();
+        for &gate in self.order {
+            let next = held.step(gate, self.netlist.gate(gate));
+            if !self.has_room(&rules.judging, &next) {
+                let answer = Answer::OutOfRoom {
+                    step: log.len() as u32 + 1,
+                    terms: held.count() as u32,
+                };
+                if !rules.judging.step_without_room_has_no_record {
+                    log.push((gate, next.count() as u32));
+                }
+                return Run {
+                    answer,
+                    held: Some(held),
+                    log,
+                };
+            }
+            // A step that changes nothing is a step all the same.
+            if rules.judging.idle_steps_count || held.mentions(gate) {
+                log.push((gate, next.count() as u32));
+            }
+            held = next;
+        }
+        Run {
+            answer: self.answer(rules, &held, log.len() as u32),
+            held: Some(held),
+            log,
+        }
+    }
+
+    /// Terms are counted once like terms are gathered, and exactly T of them have room.
+    fn has_room(&self, rules: &JudgingRules, polynomial: &Polynomial) -> bool {
+        let count = if rules.gathered_terms_are_counted {
+            polynomial.count()
+        } else {
+            polynomial.ungathered_count()
+        } as u64;
+        count < self.limit || (count == self.limit && rules.exactly_the_limit_is_room)
+    }
+
+    /// The answer when every step had room.
+    fn answer(&self, rules: &Rules, last: &Polynomial, steps: u32) -> Answer {
+        let terms = last.count() as u32;
+        let is_missed = |gate| !self.order.contains(&gate);
+        if !rules.judging.missed_gates_may_be_equal && self.netlist.gates().any(is_missed) {
+            return Answer::Unfinished { steps, terms };
+        }
+        if last.count() == 0 {
+            return Answer::Equal { steps, terms };
+        }
+        let inputs = self.netlist.counts.i;
+        if last.mentions_above(inputs) && rules.judging.gate_variables_are_unfinished {
+            return Answer::Unfinished { steps, terms };
+        }
+        let n = self.netlist.counts.n();
+        let (a, b) = wrong_pair(&rules.judging, last, n);
+        let values = self.netlist.values(&rules.table, a, b);
+        Answer::Differs {
+            steps,
+            terms,
+            a,
+            b,
+            got: self.netlist.word(&rules.table, &values),
+            wanted: self.reading.wanted(n, a, b),
+        }
+    }
+}
+
+/// R at step 0: nothing is held.
+fn full_start(rules: &JudgingRules, start: &Polynomial) -> Run {
+    let terms = if rules.full_start_holds_nothing {
+        0
+    } else {
+        start.count() as u32
+    };
+    Run {
+        answer: Answer::OutOfRoom { step: 0, terms },
+        held: None,
+        log: Vec::new(),
+    }
+}
+
+/// Refusal 9.
+fn reading_of(rules: &JudgingRules, counts: Counts, kind: u32) -> Result<Reading, u32> {
+    Reading::of_kind(rules, kind)
+        .filter(|reading| reading.outputs(counts.n()) == counts.o)
+        .ok_or(rules::KIND)
+}
+
+/// Refusal 10.
+fn limit_is_allowed(rules: &JudgingRules, limit: u64) -> Result<(), u32> {
+    if (rules.least_limit..=rules.most_limit).contains(&limit) {
+        Ok(())
+    } else {
+        Err(rules::LIMIT)
+    }
+}
+
+/// Refusal 11.
+fn order_is_allowed(rules: &JudgingRules, counts: Counts, order: &[u32]) -> Result<(), u32> {
+    if order.len() <= rules.most_steps && order.iter().all(|&v| counts.is_gate(v)) {
+        Ok(())
+    } else {
+        Err(rules::ORDER)
+    }
+}
+
+/// The differing pair with the fewest 1 bits, of those the one with the smallest a + 2^n·b.
+///
+/// A pair's value is the sum of the coefficients of all terms inside the set
+/// of its 1 bits. So where no smaller set differs, a set differs exactly when
+/// it is itself a term: the pair sought is the term with the fewest
+/// variables, of those the smallest.
+fn wrong_pair(rules: &JudgingRules, last: &Polynomial, n: u32) -> (u64, u64) {
+    let sets = || last.terms().map(|(set, _)| set);
+    let least = if !rules.pair_is_a_least_term {
+        sets().next_back()
+    } else if !rules.fewest_ones_come_first {
+        sets().next()
+    } else {
+        sets().min_by_key(|set| (set.len(), *set))
+    };
+    let (mut a, mut b) = (0, 0);
+    for variable in least.into_iter().flatten().map(|&v| u32::from(v)) {
+        if variable <= n {
+            a |= 1 << (variable - 1);
+        } else if variable <= 2 * n {
+            b |= 1 << (variable - n - 1);
+        }
+    }
+    (a, b)
+}
+
+/// Judges a netlist. Every lent word at the end is as document 01 says; a refusal changes none.
+#[allow(clippy::too_many_arguments)]
+pub fn judge(
+    counts: Counts,
+    table: &[u32],
+    kind: u32,
+    limit: u64,
+    order: &[u32],
+    store: &mut [u64],
+    scratch: &mut [u64],
+    gates: &mut [u32],
+    terms: &mut [u32],
+) -> Answer {
+    let lent = Lent {
+        store,
+        scratch,
+        gates,
+        terms,
+    };
+    judge_by(
+        &Rules::of_document(),
+        counts,
+        table,
+        kind,
+        limit,
+        order,
+        lent,
+    )
+}
+
+pub fn judge_by(
+    rules: &Rules,
+    counts: Counts,
+    table: &[u32],
+    kind: u32,
+    limit: u64,
+    order: &[u32],
+    lent: Lent,
+) -> Answer {
+    let question = match Question::checked(rules, counts, table, kind, limit, order) {
+        Ok(question) => question,
+        Err(number) => return Answer::Refused(number),
+    };
+    if let Err(number) = lent.is_long_enough(&rules.judging, &question) {
+        return Answer::Refused(number);
+    }
+    let run = question.run(rules);
+    words::leave(&rules.judging, &question, &run, lent);
+    run.answer
+}

@@ -1,0 +1,29 @@
+//! A second judge of combinational multiplier netlists, written from document 01 and the decisions on its open points alone.
+//!
+//! It is kept plain so that it can be believed by reading: a polynomial is an
+//! ordered map from sets of variables to coefficients, and every rule of the
+//! document has one named place in [`rules::Rules`].
+
+pub mod blocks;
+pub mod brute;
+pub mod cases;
+pub mod desk;
+pub mod judge;
+mod mutants;
+pub mod netlists;
+pub mod orders;
+pub mod polynomial;
+pub mod random;
+pub mod reading;
+pub mod rules;
+pub mod table;
+pub mod text;
+pub mod words;
+
+pub use desk::{desk, desk_by};
+pub use judge::{judge, judge_by, Answer};
+pub use reading::wanted;
+pub use rules::Rules;
+pub use table::{evaluate, evaluate_by, Counts};
+pub use text::{read, read_by};
+pub use words::Lent;

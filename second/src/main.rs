@@ -1,0 +1,161 @@
+//! The command `second`.
+
+use second::desk::{answer_line, TABLE_WORDS};
+use second::{blocks, desk, evaluate, judge, orders, read};
+use second::{reading::Reading, Answer, Counts};
+use std::io::{Read, Write};
+use std::process::ExitCode;
+
+const USAGE: &str = "usage:
+  second desk                                    judge what is on standard input, as the desk program does
+  second judge [--steps] KIND T FILE [ORDERFILE] judge a netlist file; KIND is u, s or t
+  second evaluate FILE A B                       the word the outputs show for an operand pair
+  second blocks [T] [SEEDS]                      run the larger real blocks";
+
+/// Why a command could not be carried out.
+enum Trouble {
+    Misuse,
+    File(String),
+}
+
+fn main() -> ExitCode {
+    let arguments: Vec<String> = std::env::args().skip(1).collect();
+    match command(&arguments) {
+        Ok(true) => ExitCode::SUCCESS,
+        Ok(false) => ExitCode::FAILURE,
+        Err(Trouble::Misuse) => {
+            eprintln!("{USAGE}");
+            ExitCode::from(2)
+        }
+        Err(Trouble::File(message)) => {
+            eprintln!("second: {message}");
+            ExitCode::from(2)
+        }
+    }
+}
+
+/// Carries out a command and says whether all went as it should.
+fn command(arguments: &[String]) -> Result<bool, Trouble> {
+    let words: Vec<&str> = arguments.iter().map(String::as_str).collect();
+    let shows_steps = words.contains(&"--steps");
+    let words: Vec<&str> = words.into_iter().filter(|&w| w != "--steps").collect();
+    match (shows_steps, words.as_slice()) {
+        (false, ["desk"]) => desk_command(),
+        (steps, ["judge", kind, limit, file]) => judge_command(steps, kind, limit, file, None),
+        (steps, ["judge", kind, limit, file, order]) => {
+            judge_command(steps, kind, limit, file, Some(order))
+        }
+        (false, ["evaluate", file, a, b]) => evaluate_command(file, number(a)?, number(b)?),
+        (false, ["blocks"]) => Ok(blocks::run_larger(16_384, 2)),
+        (false, ["blocks", limit]) => Ok(blocks::run_larger(number(limit)?, 2)),
+        (false, ["blocks", limit, seeds]) => Ok(blocks::run_larger(number(limit)?, number(seeds)?)),
+        _ => Err(Trouble::Misuse),
+    }
+}
+
+fn desk_command() -> Result<bool, Trouble> {
+    let mut input = Vec::new();
+    std::io::stdin()
+        .read_to_end(&mut input)
+        .map_err(|error| Trouble::File(format!("standard input: {error}")))?;
+    std::io::stdout()
+        .write_all(&desk(&input))
+        .map_err(|error| Trouble::File(format!("standard output: {error}")))?;
+    Ok(true)
+}
+
+fn judge_command(
+    shows_steps: bool,
+    kind: &str,
+    limit: &str,
+    file: &str,
+    order_file: Option<&str>,
+) -> Result<bool, Trouble> {
+    let reading = match kind.as_bytes() {
+        [letter] => Reading::of_letter(*letter).ok_or(Trouble::Misuse)?,
+        _ => return Err(Trouble::Misuse),
+    };
+    let limit = number(limit)?;
+    let text = bytes_of(file)?;
+    let given_order = order_file.map(order_in).transpose()?;
+    let mut table = vec![0; TABLE_WORDS];
+    let (answer, log) = match read(&text, &mut table) {
+        Ok(counts) => {
+            let order = given_order.unwrap_or_else(|| orders::falling(counts));
+            judged(counts, &table, reading, limit, &order)
+        }
+        Err(number) => (Answer::Refused(number), Vec::new()),
+    };
+    println!("{}", answer_line(&answer));
+    for (gate, terms) in log.iter().filter(|_| shows_steps) {
+        println!("{gate} {terms}");
+    }
+    Ok(true)
+}
+
+/// The answer, and the log of the steps completed.
+fn judged(
+    counts: Counts,
+    table: &[u32],
+    reading: Reading,
+    limit: u64,
+    order: &[u32],
+) -> (Answer, Vec<(u32, u32)>) {
+    // A limit that is too high is refused before the lent words are measured.
+    let words = limit.min(16_384) as usize * counts.term_words();
+    let (mut store, mut scratch) = (vec![0; words], vec![0; 4 * words]);
+    let (mut gates, mut terms) = (vec![0; order.len()], vec![0; order.len()]);
+    let answer = judge(
+        counts,
+        table,
+        reading.kind(),
+        limit,
+        order,
+        &mut store,
+        &mut scratch,
+        &mut gates,
+        &mut terms,
+    );
+    let log = gates.into_iter().zip(terms);
+    (answer, log.take(steps_completed(&answer)).collect())
+}
+
+fn steps_completed(answer: &Answer) -> usize {
+    let steps = match *answer {
+        Answer::Equal { steps, .. } => steps,
+        Answer::Differs { steps, .. } => steps,
+        Answer::Unfinished { steps, .. } => steps,
+        Answer::OutOfRoom { step, .. } => step.saturating_sub(1),
+        Answer::Refused(_) => 0,
+    };
+    steps as usize
+}
+
+fn evaluate_command(file: &str, a: u64, b: u64) -> Result<bool, Trouble> {
+    let text = bytes_of(file)?;
+    let mut table = vec![0; TABLE_WORDS];
+    let word = read(&text, &mut table).and_then(|counts| evaluate(counts, &table, a, b));
+    match word {
+        Ok(word) => println!("{word}"),
+        Err(number) => println!("{}", answer_line(&Answer::Refused(number))),
+    }
+    Ok(true)
+}
+
+fn bytes_of(file: &str) -> Result<Vec<u8>, Trouble> {
+    std::fs::read(file).map_err(|error| Trouble::File(format!("{file}: {error}")))
+}
+
+/// Gate variables as decimal numbers with white space between them.
+fn order_in(file: &str) -> Result<Vec<u32>, Trouble> {
+    let text = String::from_utf8(bytes_of(file)?).map_err(|_| Trouble::Misuse)?;
+    text.split_ascii_whitespace().map(number).collect()
+}
+
+/// A decimal number that fits its type; a sign is misuse.
+fn number<N: std::str::FromStr>(word: &str) -> Result<N, Trouble> {
+    if !word.bytes().all(|byte| byte.is_ascii_digit()) {
+        return Err(Trouble::Misuse);
+    }
+    word.parse().map_err(|_| Trouble::Misuse)
+}

@@ -1,0 +1,192 @@
+//! Made netlists: random sound ones, right multipliers, and multipliers with one fault.
+
+use crate::random::Random;
+use crate::reading::Reading;
+use crate::rules::Rules;
+use crate::table::{Counts, Netlist};
+
+/// A netlist with its own table.
+#[derive(Clone, Debug, PartialEq, Eq)]
+pub struct Made {
+    pub counts: Counts,
+    pub table: Vec<u32>,
+}
+
+impl Made {
+    pub fn new(inputs: u32, outputs: &[u32], gates: &[(u32, u32)]) -> Made {
+        let mut table = outputs.to_vec();
+        for &(rhs0, rhs1) in gates {
+            table.extend([rhs0, rhs1]);
+        }
+        let a = gates.len() as u32;
+        let counts = Counts {
+            m: inputs + a,
+            i: inputs,
+            l: 0,
+            o: outputs.len() as u32,
+            a,
+        };
+        Made { counts, table }
+    }
+
+    pub fn netlist(&self) -> Netlist<'_> {
+        Netlist::of(&Rules::of_document(), self.counts, &self.table).expect("a made netlist")
+    }
+
+    /// The netlist text, also of a netlist that breaks the rules.
+    pub fn text(&self) -> Vec<u8> {
+        let Counts { m, i, l, o, a } = self.counts;
+        let mut text = format!("aag {m} {i} {l} {o} {a}\n");
+        for input in 1..=i {
+            text += &format!("{}\n", 2 * input);
+        }
+        let (outputs, gates) = self.table.split_at(o as usize);
+        for output in outputs {
+            text += &format!("{output}\n");
+        }
+        for (gate, literals) in (i + 1..).zip(gates.chunks(2)) {
+            text += &format!("{} {} {}\n", 2 * gate, literals[0], literals[1]);
+        }
+        text.into_bytes()
+    }
+}
+
+/// A sound netlist with nothing in mind. Half of the literals are near the gate, so that gates hang together.
+pub fn random_sound(random: &mut Random, inputs: u32, outputs: u32, gates: u32) -> Made {
+    let pairs: Vec<(u32, u32)> = (inputs + 1..=inputs + gates)
+        .map(|gate| {
+            let one = literal_below(random, 2 * gate);
+            let other = literal_below(random, 2 * gate);
+            (one.max(other), one.min(other))
+        })
+        .collect();
+    let past = 2 * (inputs + gates) + 2;
+    let shown: Vec<u32> = (0..outputs).map(|_| literal_below(random, past)).collect();
+    Made::new(inputs, &shown, &pairs)
+}
+
+fn literal_below(random: &mut Random, past: u32) -> u32 {
+    let near = random.one_in(2);
+    let span = if near { past.min(8) } else { past };
+    past - 1 - random.below(span as usize) as u32
+}
+
+/// Grows a netlist gate by gate.
+struct Maker {
+    inputs: u32,
+    gates: Vec<(u32, u32)>,
+    /// Whether an AND with a constant or with its own variable is spared.
+    spares: bool,
+}
+
+impl Maker {
+    fn and(&mut self, x: u32, y: u32) -> u32 {
+        let (high, low) = (x.max(y), x.min(y));
+        if self.spares {
+            match low {
+                0 => return 0,
+                1 => return high,
+                _ if high == low => return high,
+                _ if high == low ^ 1 => return 0,
+                _ => {}
+            }
+        }
+        self.gates.push((high, low));
+        2 * (self.inputs + self.gates.len() as u32)
+    }
+
+    fn or(&mut self, x: u32, y: u32) -> u32 {
+        self.and(x ^ 1, y ^ 1) ^ 1
+    }
+
+    fn xor(&mut self, x: u32, y: u32) -> u32 {
+        let both = self.and(x, y);
+        let none = self.and(x ^ 1, y ^ 1);
+        self.and(both ^ 1, none ^ 1)
+    }
+
+    /// Adds a row to the sum from this place up; the carry out of the top is dropped.
+    fn add_row(&mut self, sum: &mut [u32], row: &[u32], place: usize) {
+        let mut carry = 0;
+        for (total, &bit) in sum[place..].iter_mut().zip(row) {
+            let half = self.xor(*total, bit);
+            let both = self.and(*total, bit);
+            let passed = self.and(half, carry);
+            *total = self.xor(half, carry);
+            carry = self.or(both, passed);
+        }
+        if let Some(above) = sum.get_mut(place + row.len()) {
+            // Rows are added lowest first, so nothing stands above the row yet.
+            *above = carry;
+        }
+    }
+}
+
+/// A multiplier that is right under the reading: rows of partial products, added with ripple carry.
+pub fn multiplier(random: &mut Random, reading: Reading, n: u32) -> Made {
+    let l = reading.outputs(n) as usize;
+    let mut maker = Maker {
+        inputs: 2 * n,
+        gates: Vec::new(),
+        spares: random.one_in(2),
+    };
+    let (first, second) = if random.one_in(2) {
+        (1, n + 1)
+    } else {
+        (n + 1, 1)
+    };
+    let x = operand(reading, first, n, l);
+    let y = operand(reading, second, n, l);
+    let rows = if reading == Reading::Plain {
+        n as usize
+    } else {
+        l
+    };
+    let mut sum = vec![0; l];
+    for (place, &multiplier) in y.iter().enumerate().take(rows) {
+        let width = if reading == Reading::Plain {
+            n as usize
+        } else {
+            l - place
+        };
+        let row: Vec<u32> = x[..width]
+            .iter()
+            .map(|&bit| maker.and(bit, multiplier))
+            .collect();
+        if place == 0 {
+            sum[..width].copy_from_slice(&row);
+        } else {
+            maker.add_row(&mut sum, &row, place);
+        }
+    }
+    Made::new(maker.inputs, &sum, &maker.gates)
+}
+
+/// An operand's l literals: a signed operand goes on with its top bit.
+fn operand(reading: Reading, first: u32, n: u32, l: usize) -> Vec<u32> {
+    (0..l as u32)
+        .map(|bit| match reading {
+            _ if bit < n => 2 * (first + bit),
+            Reading::Signed => 2 * (first + n - 1),
+            _ => 0,
+        })
+        .collect()
+}
+
+/// Changes one word of the table and keeps it sound. The netlist may still be right afterwards.
+pub fn with_fault(random: &mut Random, made: &Made) -> Made {
+    let mut faulty = made.clone();
+    let at = random.below(faulty.table.len());
+    let outputs = made.counts.o as usize;
+    if at < outputs {
+        faulty.table[at] = literal_below(random, 2 * made.counts.m + 2);
+        return faulty;
+    }
+    let place = (at - outputs) / 2;
+    let gate = made.counts.i + 1 + place as u32;
+    let kept = faulty.table[outputs + 2 * place + random.below(2)];
+    let other = literal_below(random, 2 * gate);
+    faulty.table[outputs + 2 * place] = kept.max(other);
+    faulty.table[outputs + 2 * place + 1] = kept.min(other);
+    faulty
+}

@@ -1,0 +1,234 @@
+//! The rules of document 01 as values, and the numbers of refusal.
+//!
+//! Every field states one rule, and `of_document` gives it the document's
+//! value. The rest of the program asks these fields instead of writing the
+//! rule down a second time. That lets `mutants` bend exactly one rule at a time:
+//! a comparison that cannot tell a mutant from the document is too weak.
+
+/// Header line malformed or cut short.
+pub const HEADER: u32 = 1;
+/// A count outside its limits.
+pub const COUNTS: u32 = 2;
+/// Table shorter than O + 2A.
+pub const TABLE_SHORT: u32 = 3;
+/// Input line wrong.
+pub const INPUT_LINE: u32 = 4;
+/// Output line wrong.
+pub const OUTPUT_LINE: u32 = 5;
+/// Gate line wrong.
+pub const GATE_LINE: u32 = 6;
+/// Bytes after the last gate line.
+pub const BYTES_AFTER: u32 = 7;
+/// Table handed in unsound.
+pub const UNSOUND: u32 = 8;
+/// Kind unknown, or O is not l.
+pub const KIND: u32 = 9;
+/// T outside 128..16,384.
+pub const LIMIT: u32 = 10;
+/// Order too long, or names something that is no gate.
+pub const ORDER: u32 = 11;
+/// Store, scratch or log too short.
+pub const LENT_SHORT: u32 = 12;
+/// Desk program only: input over 4,096 bytes, or M > 127.
+pub const DESK: u32 = 13;
+
+#[derive(Clone, Copy, Debug, PartialEq, Eq)]
+pub struct Rules {
+    pub counts: CountRules,
+    pub text: TextRules,
+    pub table: TableRules,
+    pub judging: JudgingRules,
+    pub desk: DeskRules,
+}
+
+/// Limits of the five counts, wherever they come from.
+#[derive(Clone, Copy, Debug, PartialEq, Eq)]
+pub struct CountRules {
+    pub most_variables: u32,
+    pub least_inputs: u32,
+    pub most_inputs: u32,
+    pub inputs_are_even: bool,
+    pub most_outputs: u32,
+    pub most_latches: u32,
+    pub sum_is_exact: bool,
+}
+
+/// How a netlist text is written, and what reading it may touch.
+#[derive(Clone, Copy, Debug, PartialEq, Eq)]
+pub struct TextRules {
+    pub most_digits: usize,
+    pub leading_zero_is_wrong: bool,
+    pub last_line_needs_its_end: bool,
+    pub input_lines_are_in_sequence: bool,
+    pub left_side_is_in_sequence: bool,
+    pub nothing_follows: bool,
+    pub table_length_is_checked: bool,
+    pub table_comes_before_lines: bool,
+    pub refusal_writes_nothing: bool,
+    pub words_past_are_kept: bool,
+}
+
+/// What a sound table is, and the value of its outputs.
+#[derive(Clone, Copy, Debug, PartialEq, Eq)]
+pub struct TableRules {
+    pub gate_literals_fall: bool,
+    pub gate_reads_below_itself: bool,
+    pub last_inverse_is_an_output: bool,
+    pub operand_bits_from_n_are_absent: bool,
+    pub first_operand_comes_first: bool,
+    pub output_0_is_lowest: bool,
+    pub gate_inverters_count: bool,
+    pub output_inverters_count: bool,
+    pub literal_1_is_true: bool,
+}
+
+/// What judging counts, chooses and leaves in the lent words.
+#[derive(Clone, Copy, Debug, PartialEq, Eq)]
+pub struct JudgingRules {
+    pub least_limit: u64,
+    pub most_limit: u64,
+    pub most_steps: usize,
+    pub kind_is_32_bits: bool,
+    pub limit_comes_before_order: bool,
+    pub soundness_comes_before_kind: bool,
+    pub both_log_slices_are_measured: bool,
+    pub coefficients_have_l_bits: bool,
+    pub squares_join: bool,
+    pub signed_terms_have_signs: bool,
+    pub gathered_terms_are_counted: bool,
+    pub exactly_the_limit_is_room: bool,
+    pub idle_steps_count: bool,
+    pub missed_gates_may_be_equal: bool,
+    pub gate_variables_are_unfinished: bool,
+    pub fewest_ones_come_first: bool,
+    pub pair_is_a_least_term: bool,
+    pub full_start_holds_nothing: bool,
+    pub step_without_room_has_no_record: bool,
+    pub other_records_are_kept: bool,
+    pub sets_fall: bool,
+    pub last_word_leads: bool,
+    pub store_is_cleared_to_its_end: bool,
+    pub scratch_is_cleared: bool,
+}
+
+/// What the desk program takes, in what order it checks, and how it prints.
+#[derive(Clone, Copy, Debug, PartialEq, Eq)]
+pub struct DeskRules {
+    pub most_bytes: usize,
+    pub most_variables: u32,
+    pub limit: u64,
+    pub length_comes_before_kind: bool,
+    pub kind_line_needs_its_end: bool,
+    pub variables_come_before_judging: bool,
+    pub order_falls: bool,
+    pub numbers_are_bare: bool,
+    pub got_comes_before_wanted: bool,
+    pub line_has_its_end: bool,
+}
+
+impl Rules {
+    pub const fn of_document() -> Rules {
+        Rules {
+            counts: CountRules::of_document(),
+            text: TextRules::of_document(),
+            table: TableRules::of_document(),
+            judging: JudgingRules::of_document(),
+            desk: DeskRules::of_document(),
+        }
+    }
+}
+
+impl CountRules {
+    const fn of_document() -> CountRules {
+        CountRules {
+            most_variables: 1_023,
+            least_inputs: 2,
+            most_inputs: 64,
+            inputs_are_even: true,
+            most_outputs: 64,
+            most_latches: 0,
+            sum_is_exact: true,
+        }
+    }
+}
+
+impl TextRules {
+    const fn of_document() -> TextRules {
+        TextRules {
+            most_digits: 4,
+            leading_zero_is_wrong: true,
+            last_line_needs_its_end: true,
+            input_lines_are_in_sequence: true,
+            left_side_is_in_sequence: true,
+            nothing_follows: true,
+            table_length_is_checked: true,
+            table_comes_before_lines: true,
+            refusal_writes_nothing: true,
+            words_past_are_kept: true,
+        }
+    }
+}
+
+impl TableRules {
+    const fn of_document() -> TableRules {
+        TableRules {
+            gate_literals_fall: true,
+            gate_reads_below_itself: true,
+            last_inverse_is_an_output: true,
+            operand_bits_from_n_are_absent: true,
+            first_operand_comes_first: true,
+            output_0_is_lowest: true,
+            gate_inverters_count: true,
+            output_inverters_count: true,
+            literal_1_is_true: true,
+        }
+    }
+}
+
+impl JudgingRules {
+    const fn of_document() -> JudgingRules {
+        JudgingRules {
+            least_limit: 128,
+            most_limit: 16_384,
+            most_steps: 4_096,
+            kind_is_32_bits: true,
+            limit_comes_before_order: true,
+            soundness_comes_before_kind: true,
+            both_log_slices_are_measured: true,
+            coefficients_have_l_bits: true,
+            squares_join: true,
+            signed_terms_have_signs: true,
+            gathered_terms_are_counted: true,
+            exactly_the_limit_is_room: true,
+            idle_steps_count: true,
+            missed_gates_may_be_equal: true,
+            gate_variables_are_unfinished: true,
+            fewest_ones_come_first: true,
+            pair_is_a_least_term: true,
+            full_start_holds_nothing: true,
+            step_without_room_has_no_record: true,
+            other_records_are_kept: true,
+            sets_fall: true,
+            last_word_leads: true,
+            store_is_cleared_to_its_end: true,
+            scratch_is_cleared: true,
+        }
+    }
+}
+
+impl DeskRules {
+    const fn of_document() -> DeskRules {
+        DeskRules {
+            most_bytes: 4_096,
+            most_variables: 127,
+            limit: 512,
+            length_comes_before_kind: true,
+            kind_line_needs_its_end: true,
+            variables_come_before_judging: true,
+            order_falls: true,
+            numbers_are_bare: true,
+            got_comes_before_wanted: true,
+            line_has_its_end: true,
+        }
+    }
+}

@@ -1,0 +1,193 @@
+//! Counts, sound tables, and the value of a netlist at one operand pair.
+
+use crate::rules::{self, CountRules, Rules, TableRules};
+
+/// The five numbers of a header line.
+#[derive(Clone, Copy, Debug, PartialEq, Eq)]
+pub struct Counts {
+    pub m: u32,
+    pub i: u32,
+    pub l: u32,
+    pub o: u32,
+    pub a: u32,
+}
+
+impl Counts {
+    /// The bits of one operand.
+    pub fn n(self) -> u32 {
+        self.i / 2
+    }
+
+    /// The table words these counts need: the outputs, then two for each gate.
+    pub fn table_words(self) -> u64 {
+        u64::from(self.o) + 2 * u64::from(self.a)
+    }
+
+    /// The 64-bit words of one term: its coefficient, then its set.
+    pub fn term_words(self) -> usize {
+        self.m as usize / 64 + 2
+    }
+
+    pub fn is_gate(self, variable: u32) -> bool {
+        // I + A is M for counts within their limits.
+        variable > self.i && u64::from(variable) <= u64::from(self.i) + u64::from(self.a)
+    }
+
+    /// Refusal 2. Sums are those of whole numbers, so they are taken in 64 bits.
+    pub fn within_limits(self, rules: &CountRules) -> Result<(), u32> {
+        let sum = u64::from(self.i) + u64::from(self.a);
+        let sum_holds = if rules.sum_is_exact {
+            u64::from(self.m) == sum
+        } else {
+            u64::from(self.m) >= sum
+        };
+        let inputs_hold = (rules.least_inputs..=rules.most_inputs).contains(&self.i)
+            && (self.i.is_multiple_of(2) || !rules.inputs_are_even);
+        let outputs_hold = (1..=rules.most_outputs).contains(&self.o);
+        let others_hold = self.l <= rules.most_latches && self.m <= rules.most_variables;
+        if sum_holds && inputs_hold && outputs_hold && others_hold {
+            Ok(())
+        } else {
+            Err(rules::COUNTS)
+        }
+    }
+}
+
+/// An output is any literal of the netlist, constants and inverses too.
+pub fn output_is_sound(rules: &TableRules, counts: Counts, literal: u32) -> bool {
+    let last_variable = 2 * counts.m;
+    literal <= last_variable || (literal == last_variable + 1 && rules.last_inverse_is_an_output)
+}
+
+/// A gate reads only what stands before it, the higher literal first.
+pub fn gate_is_sound(rules: &TableRules, lhs: u32, rhs0: u32, rhs1: u32) -> bool {
+    let higher = rhs0.max(rhs1);
+    let below = higher < lhs || (higher == lhs && !rules.gate_reads_below_itself);
+    below && (rhs0 >= rhs1 || !rules.gate_literals_fall)
+}
+
+/// Counts and table words that passed the checks 2, 3 and 8.
+#[derive(Clone, Copy, Debug)]
+pub struct Netlist<'a> {
+    pub counts: Counts,
+    table: &'a [u32],
+}
+
+impl<'a> Netlist<'a> {
+    /// Refusals 2 and 3; the words themselves are looked at by `soundness`.
+    pub fn of(rules: &Rules, counts: Counts, table: &'a [u32]) -> Result<Netlist<'a>, u32> {
+        counts.within_limits(&rules.counts)?;
+        if (table.len() as u64) < counts.table_words() {
+            return Err(rules::TABLE_SHORT);
+        }
+        Ok(Netlist { counts, table })
+    }
+
+    /// Refusal 8.
+    pub fn soundness(&self, rules: &TableRules) -> Result<(), u32> {
+        let outputs_hold = self
+            .outputs()
+            .iter()
+            .all(|&literal| output_is_sound(rules, self.counts, literal));
+        let gates_hold = self.gates().all(|gate| {
+            let (rhs0, rhs1) = self.gate(gate);
+            gate_is_sound(rules, 2 * gate, rhs0, rhs1)
+        });
+        if outputs_hold && gates_hold {
+            Ok(())
+        } else {
+            Err(rules::UNSOUND)
+        }
+    }
+
+    pub fn outputs(&self) -> &'a [u32] {
+        &self.table[..self.counts.o as usize]
+    }
+
+    /// The gate variables, lowest first.
+    pub fn gates(&self) -> std::ops::RangeInclusive<u32> {
+        self.counts.i + 1..=self.counts.i + self.counts.a
+    }
+
+    /// The two literals that a gate variable is the AND of.
+    pub fn gate(&self, variable: u32) -> (u32, u32) {
+        let before = (variable - self.counts.i - 1) as usize;
+        let at = self.counts.o as usize + 2 * before;
+        (self.table[at], self.table[at + 1])
+    }
+
+    /// The value of every variable at an operand pair; place 0 stands for the constant false.
+    pub fn values(&self, rules: &TableRules, a: u64, b: u64) -> Vec<bool> {
+        let mut values = vec![false; self.counts.m as usize + 1];
+        for input in 1..=self.counts.i {
+            values[input as usize] = input_value(rules, self.counts.n(), input, a, b);
+        }
+        for gate in self.gates() {
+            let (rhs0, rhs1) = self.gate(gate);
+            let drop = if rules.gate_inverters_count { 0 } else { 1 };
+            values[gate as usize] = literal_value(rules, &values, rhs0 & !drop)
+                && literal_value(rules, &values, rhs1 & !drop);
+        }
+        values
+    }
+
+    /// The word the outputs show for these values, output 0 lowest.
+    pub fn word(&self, rules: &TableRules, values: &[bool]) -> u64 {
+        let count = self.counts.o;
+        let mut word = 0;
+        for (place, &literal) in (0..count).zip(self.outputs()) {
+            let drop = if rules.output_inverters_count { 0 } else { 1 };
+            let weight = if rules.output_0_is_lowest {
+                place
+            } else {
+                count - 1 - place
+            };
+            if literal_value(rules, values, literal & !drop) {
+                word |= 1 << weight;
+            }
+        }
+        word
+    }
+}
+
+/// Inputs 1..n are a's bits, inputs n+1..2n are b's.
+fn input_value(rules: &TableRules, n: u32, input: u32, a: u64, b: u64) -> bool {
+    let (first, second) = if rules.first_operand_comes_first {
+        (a, b)
+    } else {
+        (b, a)
+    };
+    if input <= n {
+        return first >> (input - 1) & 1 == 1;
+    }
+    let place = input - n - 1;
+    // The bent rule joins the operands without cutting them, so that bit n of one meets bit 0 of the other.
+    let leak = !rules.operand_bits_from_n_are_absent && first >> (n + place) & 1 == 1;
+    second >> place & 1 == 1 || leak
+}
+
+pub fn literal_value(rules: &TableRules, values: &[bool], literal: u32) -> bool {
+    if literal == 1 {
+        return rules.literal_1_is_true;
+    }
+    let inverted = literal % 2 == 1;
+    values[literal as usize / 2] != inverted
+}
+
+/// The word the outputs show at one operand pair. Any O will do: no reading is asked for.
+pub fn evaluate(counts: Counts, table: &[u32], a: u64, b: u64) -> Result<u64, u32> {
+    evaluate_by(&Rules::of_document(), counts, table, a, b)
+}
+
+pub fn evaluate_by(
+    rules: &Rules,
+    counts: Counts,
+    table: &[u32],
+    a: u64,
+    b: u64,
+) -> Result<u64, u32> {
+    let netlist = Netlist::of(rules, counts, table)?;
+    netlist.soundness(&rules.table)?;
+    let values = netlist.values(&rules.table, a, b);
+    Ok(netlist.word(&rules.table, &values))
+}

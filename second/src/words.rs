@@ -1,0 +1,90 @@
+//! The words of store, scratch and log: how many are needed, and what they hold afterwards.
+
+use crate::judge::{Question, Run};
+use crate::polynomial::{Polynomial, Set};
+use crate::rules::{self, JudgingRules};
+
+/// The words lent to the judge.
+pub struct Lent<'a> {
+    pub store: &'a mut [u64],
+    pub scratch: &'a mut [u64],
+    pub gates: &'a mut [u32],
+    pub terms: &'a mut [u32],
+}
+
+impl Lent<'_> {
+    /// Refusal 12.
+    pub fn is_long_enough(&self, rules: &JudgingRules, question: &Question) -> Result<(), u32> {
+        let needed = store_words(question);
+        let steps = question.order.len();
+        let log_holds = self.gates.len() >= steps
+            && (self.terms.len() >= steps || !rules.both_log_slices_are_measured);
+        if self.store.len() >= needed && self.scratch.len() >= 4 * needed && log_holds {
+            Ok(())
+        } else {
+            Err(rules::LENT_SHORT)
+        }
+    }
+}
+
+/// T(W+1): the words of T terms.
+fn store_words(question: &Question) -> usize {
+    question.limit as usize * question.netlist.counts.term_words()
+}
+
+/// Leaves in the lent words what the run ended with.
+pub fn leave(rules: &JudgingRules, question: &Question, run: &Run, lent: Lent) {
+    let cleared = if rules.store_is_cleared_to_its_end {
+        lent.store.len()
+    } else {
+        store_words(question)
+    };
+    lent.store[..cleared].fill(0);
+    if let Some(held) = &run.held {
+        let words = polynomial_words(rules, held, question.netlist.counts.term_words());
+        lent.store[..words.len()].copy_from_slice(&words);
+    }
+    if rules.scratch_is_cleared {
+        lent.scratch.fill(0);
+    }
+    leave_log(rules, run, lent.gates, lent.terms);
+}
+
+/// One record for each step completed; the other records keep their values.
+fn leave_log(rules: &JudgingRules, run: &Run, gates: &mut [u32], terms: &mut [u32]) {
+    if !rules.other_records_are_kept {
+        gates.fill(0);
+        terms.fill(0);
+    }
+    let places = gates.iter_mut().zip(terms.iter_mut());
+    for ((gate, term), record) in places.zip(&run.log) {
+        (*gate, *term) = *record;
+    }
+}
+
+/// The terms one after another, sets falling when read as one number: the last word leads.
+fn polynomial_words(rules: &JudgingRules, held: &Polynomial, term_words: usize) -> Vec<u64> {
+    let mut terms: Vec<Vec<u64>> = held
+        .terms()
+        .rev()
+        .map(|(set, coefficient)| words_of_term(set, coefficient, term_words))
+        .collect();
+    if !rules.last_word_leads {
+        terms.sort_by(|one, other| other[1..].cmp(&one[1..]));
+    }
+    if !rules.sets_fall {
+        terms.reverse();
+    }
+    terms.concat()
+}
+
+/// The coefficient, then the set: variable v at bit v mod 64 of word v/64.
+fn words_of_term(set: &Set, coefficient: u64, term_words: usize) -> Vec<u64> {
+    let mut words = vec![0; term_words];
+    words[0] = coefficient;
+    for &variable in set {
+        let place = usize::from(variable);
+        words[1 + place / 64] |= 1 << (place % 64);
+    }
+    words
+}

@@ -1,0 +1,125 @@
+//! The command `second`, run as a user runs it.
+
+use std::io::Write;
+use std::path::{Path, PathBuf};
+use std::process::{Command, Output, Stdio};
+
+fn second(arguments: &[&str], input: &[u8]) -> Output {
+    let mut child = Command::new(env!("CARGO_BIN_EXE_second"))
+        .args(arguments)
+        .stdin(Stdio::piped())
+        .stdout(Stdio::piped())
+        .stderr(Stdio::piped())
+        .spawn()
+        .unwrap();
+    // A command that asks for no input may be gone before it is written.
+    let _ = child.stdin.take().unwrap().write_all(input);
+    child.wait_with_output().unwrap()
+}
+
+fn printed(arguments: &[&str], input: &[u8]) -> String {
+    let output = second(arguments, input);
+    assert!(output.status.success());
+    assert!(output.stderr.is_empty());
+    String::from_utf8(output.stdout).unwrap()
+}
+
+/// A file for one test in the folder that cargo keeps for tests.
+fn file(name: &str, content: &str) -> PathBuf {
+    let path = Path::new(env!("CARGO_TARGET_TMPDIR")).join(name);
+    std::fs::write(&path, content).unwrap();
+    path
+}
+
+#[test]
+fn desk_prints_the_example() {
+    let input = b"u\naag 3 2 0 2 1\n2\n4\n7\n0\n6 5 3\n";
+    assert_eq!(printed(&["desk"], input), "D 1 3 1 0 1 0\n");
+    assert_eq!(printed(&["desk"], b""), "X 9\n");
+}
+
+#[test]
+fn judge_prints_the_answer_and_the_steps() {
+    let netlist = file("judge.aag", "aag 3 2 0 2 1\n2\n4\n6\n0\n6 4 2\n");
+    let order = file("judge.order", " 3\n\t3 \n");
+    let empty = file("judge.empty", "\n");
+    let wrong = file("judge.wrong", "4\n");
+    let (netlist, order) = (netlist.to_str().unwrap(), order.to_str().unwrap());
+    assert_eq!(printed(&["judge", "u", "128", netlist], b""), "E 1 0\n");
+    assert_eq!(
+        printed(&["judge", "--steps", "s", "128", netlist, order], b""),
+        "E 2 0\n3 0\n3 0\n"
+    );
+    let empty = empty.to_str().unwrap();
+    let unfinished = printed(&["judge", "u", "128", netlist, empty, "--steps"], b"");
+    assert_eq!(unfinished, "U 0 2\n");
+    let wrong = wrong.to_str().unwrap();
+    assert_eq!(
+        printed(&["judge", "u", "128", netlist, wrong], b""),
+        "X 11\n"
+    );
+    assert_eq!(printed(&["judge", "u", "127", netlist], b""), "X 10\n");
+    assert_eq!(printed(&["judge", "t", "128", netlist], b""), "X 9\n");
+}
+
+#[test]
+fn judge_shows_the_steps_before_there_was_no_room() {
+    let text =
+        "aag 15 8 0 4 7\n2\n4\n6\n8\n10\n12\n14\n16\n30\n0\n0\n0\n18 5 3\n20 18 7\n22 20 9\n\
+                24 22 11\n26 24 13\n28 26 15\n30 28 17\n";
+    let netlist = file("room.aag", text);
+    let lines = printed(
+        &["judge", "--steps", "t", "254", netlist.to_str().unwrap()],
+        b"",
+    );
+    assert_eq!(lines, "R 7 74\n15 12\n14 14\n13 18\n12 26\n11 42\n10 74\n");
+}
+
+#[test]
+fn evaluate_prints_the_word() {
+    let netlist = file(
+        "evaluate.aag",
+        "aag 3 2 0 5 1\n2\n4\n6\n0\n1\n7\n3\n6 4 2\n",
+    );
+    let netlist = netlist.to_str().unwrap();
+    assert_eq!(printed(&["evaluate", netlist, "1", "1"], b""), "5\n");
+    assert_eq!(printed(&["evaluate", netlist, "2", "3"], b""), "28\n");
+    let cut = file("evaluate.cut", "aag 3 2 0 5 1\n");
+    let line = printed(&["evaluate", cut.to_str().unwrap(), "0", "0"], b"");
+    assert_eq!(line, "X 4\n");
+}
+
+#[test]
+fn misuse_prints_the_usage_and_ends_with_2() {
+    let wrong: [&[&str]; 12] = [
+        &[],
+        &["help"],
+        &["desk", "more"],
+        &["desk", "--steps"],
+        &["judge"],
+        &["judge", "x", "128", "file"],
+        &["judge", "u", "many", "file"],
+        &["judge", "u", "-1", "file"],
+        &["judge", "u", "", "file"],
+        &["evaluate", "file", "1"],
+        &["evaluate", "file", "1", "x"],
+        &["blocks", "128", "2", "3"],
+    ];
+    for arguments in wrong {
+        let output = second(arguments, b"");
+        assert_eq!(output.status.code(), Some(2), "{arguments:?}");
+        assert!(output.stdout.is_empty());
+        assert!(output.stderr.starts_with(b"usage:"), "{arguments:?}");
+    }
+    let output = second(&["judge", "u", "128", "no such file"], b"");
+    assert_eq!(output.status.code(), Some(2));
+    assert!(output.stdout.is_empty() && !output.stderr.is_empty());
+}
+
+#[test]
+fn blocks_run_as_a_command() {
+    let lines = printed(&["blocks", "1024", "1"], b"");
+    assert!(lines.lines().count() >= 4 * 12);
+    assert!(lines.contains("abc-blast-u8 falling: E 424 0 (most 87)"));
+    assert!(!lines.contains("WRONG"));
+}

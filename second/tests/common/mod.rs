@@ -1,0 +1,22 @@
+//! What several tests need.
+#![allow(dead_code)]
+
+use second::cases::judgements::{JudgeCase, JudgeSeen};
+use second::netlists::Made;
+use second::{Answer, Rules};
+
+pub const DOCUMENT: Rules = Rules::of_document();
+
+/// Judges with exactly the least words lent.
+pub fn judged(made: &Made, kind: u32, limit: u64, order: &[u32]) -> JudgeSeen {
+    JudgeCase::new(made, kind, limit, order.to_vec()).seen(&DOCUMENT)
+}
+
+pub fn answered(made: &Made, kind: u32, limit: u64, order: &[u32]) -> Answer {
+    judged(made, kind, limit, order).answer
+}
+
+/// Whether the store begins with these words and is zero after them.
+pub fn holds(store: &[u64], words: &[u64]) -> bool {
+    store[..words.len()] == *words && store[words.len()..].iter().all(|&word| word == 0)
+}

@@ -1,0 +1,74 @@
+//! Each bent rule is told from the document's by the case generators.
+
+mod common;
+
+use common::DOCUMENT;
+use second::cases::{desks, judgements, pairs, texts};
+use second::random::Random;
+use second::{desk_by, Rules};
+
+const RANDOM_CASES: u64 = 400;
+
+/// The mutants whose name begins with the function.
+fn mutants_of(function: &str) -> Vec<(&'static str, Rules)> {
+    Rules::mutants()
+        .into_iter()
+        .filter(|(name, _)| {
+            let functions = name.split(": ").next().unwrap();
+            functions.split(", ").any(|other| other == function)
+        })
+        .collect()
+}
+
+/// Asserts that some case shows something else by each mutant's rules than by the document's.
+fn all_are_caught<C, S: PartialEq>(function: &str, cases: Vec<C>, seen: impl Fn(&C, &Rules) -> S) {
+    let right: Vec<S> = cases.iter().map(|case| seen(case, &DOCUMENT)).collect();
+    let mutants = mutants_of(function);
+    assert!(mutants.len() >= 5);
+    for (name, bent) in mutants {
+        let told_apart = |(case, right): &(&C, &S)| seen(case, &bent) != **right;
+        let caught = cases.iter().zip(&right).filter(told_apart).count();
+        println!("{function}: {caught} of {} tell {name}", cases.len());
+        assert!(caught > 0, "{name}: not caught by the cases of {function}");
+    }
+}
+
+fn with_random<C>(edges: Vec<C>, random: fn(&mut Random) -> C) -> Vec<C> {
+    let made = (0..RANDOM_CASES).map(|seed| random(&mut Random::new(seed)));
+    edges.into_iter().chain(made).collect()
+}
+
+#[test]
+fn mutants_of_reading_are_caught() {
+    let cases = with_random(texts::edges(), texts::random);
+    all_are_caught("read", cases, |case, rules| case.seen(rules));
+}
+
+#[test]
+fn mutants_of_the_evaluator_are_caught() {
+    let cases = with_random(pairs::edges(), pairs::random);
+    all_are_caught("evaluate", cases, |case, rules| case.seen(rules));
+}
+
+#[test]
+fn mutants_of_judging_are_caught() {
+    let cases = with_random(judgements::edges(), judgements::random);
+    all_are_caught("judge", cases, |case, rules| case.seen(rules));
+}
+
+#[test]
+fn mutants_of_the_desk_are_caught() {
+    let cases = with_random(desks::edges(), desks::random);
+    all_are_caught("desk", cases, |case, rules| desk_by(rules, case));
+}
+
+#[test]
+fn every_mutant_bends_something_and_no_two_are_alike() {
+    let mutants = Rules::mutants();
+    for (place, (name, bent)) in mutants.iter().enumerate() {
+        assert_ne!(*bent, DOCUMENT, "{name}");
+        assert!(mutants[place + 1..]
+            .iter()
+            .all(|(other, rules)| other != name && rules != bent));
+    }
+}

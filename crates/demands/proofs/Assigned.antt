@@ -13,7 +13,7 @@ use Rattle.rules.specs.Netlist.{variable, inverted, gate, rhs0, rhs1}
 use Rattle.rules.specs.Values.{width, bit, turned, literal-value, input-values, gate-value, values-to, values}
 use Rattle.rules.proofs.Indices.{length-listed, getD-listed}
 use Rattle.rules.specs.declared.counts.Counts.{Counts}
-use Rattle.demands.proofs.Sound.{RightCounts, SoundTable}
+use Rattle.rules.proofs.Sound.{RightCounts, SoundTable}
 use Rattle.demands.proofs.Value.{Digits, digit-at}
 
 -- digits behind digits

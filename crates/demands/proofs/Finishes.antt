@@ -16,7 +16,7 @@ use Rattle.rules.specs.Steps.{modulus, start, step, trail, run, after, times-na
 use Rattle.rules.specs.declared.answers.Answer.the-variants.{Unfinished}
 use Rattle.rules.specs.declared.counts.Counts.{Counts}
 use Rattle.demands.specs.Answers.{HonestFinishes, following}
-use Rattle.demands.proofs.Sound.{right-counts}
+use Rattle.rules.proofs.Sound.{right-counts}
 use Rattle.demands.proofs.Passed.{passed}
 use Rattle.demands.proofs.Honest.{honest-once, honest-falls}
 use Rattle.demands.proofs.Absent.{Absent, step-absent}

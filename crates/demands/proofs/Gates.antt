@@ -1,21 +1,19 @@
 -- The evaluator's word is shown by the one assignment of the gates.
-use mathlib.Core.Path.{_≡_, refl, ap, sym, _∙_}
+use mathlib.Core.Path.{_≡_, refl, sym, _∙_}
 use mathlib.Core.Bool.{Bool, true, false}
 use mathlib.Core.List.{List, [], _∷_}
-use mathlib.Core.Logic.{_⊎_, inl, inr, ⊎-elim}
-use Prim.Native.Nat.{ℕ, zero, suc, _+_, _-_, _*_, _<_, _≤_}
-use native.Mathlib.Numerals.{add-one}
+use Prim.Native.Nat.{ℕ, zero, suc, _+_, _-_, _<_, _≤_}
 use native.Mathlib.Omega.{arith}
 use lib.Dec.{ltb}
-use lib.ListN.{length, getD}
+use lib.ListN.{getD}
 use lib.Seq.{ext-getD}
 use borrow.Author.Tests.{ltb-true, ltb-false, not-false}
-use Rattle.rules.specs.Netlist.{gate, rhs0, rhs1, variable, counts-wrong, table-unsound}
-use Rattle.rules.specs.Says.{refuses, answers, first, refuse-or, word-says}
-use Rattle.rules.specs.Values.{width, literal-value, values, shown, evaluate-checks, evaluating}
+use Rattle.rules.specs.Netlist.{gate, rhs0, rhs1, counts-wrong, table-unsound}
+use Rattle.rules.specs.Says.{answers, first, refuse-or}
+use Rattle.rules.specs.Values.{width, values, shown, evaluate-checks, evaluating}
 use Rattle.rules.specs.declared.counts.Counts.{Counts}
 use Rattle.demands.specs.Netlists.{Assignment, ValuesAreTheGates}
-use Rattle.demands.proofs.Sound.{RightCounts, SoundTable, right-counts, sound-table}
+use Rattle.rules.proofs.Sound.{RightCounts, SoundTable, right-counts, sound-table}
 use Rattle.demands.proofs.Assigned.{literal-same, values-false, values-first, values-second, values-length, values-gate}
 use Rattle.demands.proofs.Passed.{none-holds}
 

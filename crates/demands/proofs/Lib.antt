@@ -1,5 +1,4 @@
 -- The proofs of the demands.
-pub mod Sound
 pub mod Value
 pub mod Assigned
 pub mod StepKeeps
@@ -24,6 +23,16 @@ pub mod TermLimit
 pub mod Room
 pub mod Finishes
 pub mod Decides
+pub mod Digits
+pub mod Scans
+pub mod Fields
+pub mod Lines
+pub mod NetlistLines
+pub mod Tables
+pub mod Readings
+pub mod TextExact
+pub mod ReadRefused
 pub mod Refused
+pub mod DeskRefused
 pub mod Gates
 pub mod StandIns

@@ -1,13 +1,13 @@
 -- The evaluator and the judge refuse with the first condition that holds, and a refusal changes nothing.
-use mathlib.Core.Path.{_≡_, refl, ap, sym, _∙_}
+use mathlib.Core.Path.{_≡_, refl, sym, _∙_}
 use mathlib.Core.Bool.{Bool, true, false, cond}
 use mathlib.Core.List.{List, [], _∷_}
-use mathlib.Core.Logic.{_⊎_, inl, inr, _↔_}
+use mathlib.Core.Logic.{inl, inr, _↔_}
 use Prim.Native.Nat.{ℕ, zero, suc, _<_}
 use native.Mathlib.Omega.{arith}
-use Rattle.rules.specs.Says.{Says, refuses, answers, first, refuse-or, says, word-says}
+use Rattle.rules.specs.Says.{Says, refuses, answers, first, refuse-or}
 use Rattle.rules.specs.Values.{evaluate-checks, evaluating, shown}
-use Rattle.rules.specs.Judging.{Inputs, kept-or, judge-checks, checks, refusal, judging, store-after, scratch-after, gates-after, terms-after}
+use Rattle.rules.specs.Judging.{kept-or, judge-checks, checks, refusal, judging, store-after, scratch-after, gates-after, terms-after}
 use Rattle.demands.specs.Refusals.{First, EvaluateRefusedExact, JudgeRefusedExact, JudgeRefusalKeeps}
 use Rattle.demands.proofs.Room.{verdict-answers}
 use Rattle.demands.proofs.Verdicts.{verdict-on, judging-passed}

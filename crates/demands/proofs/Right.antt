@@ -14,14 +14,14 @@ use Rattle.rules.specs.Says.{says}
 use Rattle.rules.specs.Values.{width, values}
 use Rattle.rules.specs.Product.{Kind, kind-of, outputs-of, modulo, product}
 use Rattle.rules.specs.Polynomial.{Term, Polynomial, coefficient-at}
-use Rattle.rules.specs.Steps.{modulus, run, after}
+use Rattle.rules.specs.Steps.{modulus, after}
 use Rattle.rules.specs.Judging.{Inputs, inputs-only, soonest}
 use Rattle.rules.specs.declared.counts.Counts.{Counts}
 use Rattle.rules.proofs.Indices.{both}
 use Rattle.rules.proofs.Gathered.{coefficient-lt}
 use Rattle.demands.specs.Polynomials.{value}
 use Rattle.demands.specs.Answers.{bits, got, wanted, following, Before, Least, EqualRight, DiffersRight}
-use Rattle.demands.proofs.Sound.{RightCounts, right-counts, sound-table}
+use Rattle.rules.proofs.Sound.{RightCounts, right-counts, sound-table}
 use Rattle.demands.proofs.StepShape.{Shape, modulus-above, run-shape, run-value}
 use Rattle.demands.proofs.Remainders.{same-cancel}
 use Rattle.demands.proofs.StartValue.{start-value}

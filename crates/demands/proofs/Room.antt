@@ -16,7 +16,7 @@ use Rattle.rules.specs.declared.answers.Answer.the-variants.{OutOfRoom, Unfinis
 use Rattle.rules.specs.declared.counts.Counts.{Counts}
 use Rattle.rules.proofs.OneOutcome.{answer-known}
 use Rattle.demands.specs.Answers.{RoomExact, UnfinishedExact, Roomy, GateOccurs, following}
-use Rattle.demands.proofs.Sound.{right-counts, sound-table}
+use Rattle.rules.proofs.Sound.{right-counts, sound-table}
 use Rattle.demands.proofs.StepShape.{run-shape}
 use Rattle.demands.proofs.Passed.{passed}
 use Rattle.demands.proofs.Verdicts.{verdict-on, judging-passed, answer-passed, answer-verdict, length-run, verdict-room, verdict-ended, ended-unfinished}

@@ -1,10 +1,10 @@
 -- Each stand-in is shut out: the row computes to something else.
-use mathlib.Core.Path.{_≡_, refl, ap, sym, _∙_}
+use mathlib.Core.Path.{_≡_, refl, ap, _∙_}
 use mathlib.Core.List.{List, [], _∷_}
 use Prim.Native.Nat.{ℕ}
 use native.Mathlib.Omega.{arith}
 use lib.ListN.{getD}
-use Rattle.rules.specs.Says.{Says, refuses, answers, says}
+use Rattle.rules.specs.Says.{answers, says}
 use Rattle.rules.specs.Bench.{right}
 use Rattle.rules.specs.Judging.{judging, store-after, terms-after}
 use Rattle.demands.specs.StandIns.{handed, and-block, p1, p3, p6, p10, NotRefuseEverything, NotAlwaysEqual, NotTouchNothing, NotReduceAtOnce, NotInventTheCount}

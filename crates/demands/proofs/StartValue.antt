@@ -20,7 +20,7 @@ use Rattle.rules.specs.declared.counts.Counts.{Counts}
 use Rattle.rules.proofs.Indices.{sum-same}
 use Rattle.demands.specs.Polynomials.{set-value, value, plain-outputs, StartValue}
 use Rattle.demands.proofs.Value.{set-value-none, set-value-two, value-gather, value-times-literal}
-use Rattle.demands.proofs.Sound.{RightCounts, SoundTable, right-counts, sound-table}
+use Rattle.rules.proofs.Sound.{RightCounts, SoundTable, right-counts, sound-table}
 use Rattle.demands.proofs.Assigned.{literal-digit, values-digits, values-false, values-first, values-second, values-length}
 use Rattle.demands.proofs.Remainders.{same-add, same-cancel, opposite, without, modulo-cond, modulo-mul, sum-mod, sum-factor}
 use Rattle.demands.proofs.Weighed.{weighed, weighed-value, weighed-joined, weighed-one}

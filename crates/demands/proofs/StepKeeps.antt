@@ -12,7 +12,7 @@ use Rattle.rules.specs.Polynomial.{Term, Polynomial, Coefficients, times-litera
 use Rattle.rules.specs.Steps.{modulus, where-held, replaced, all-replaced, step}
 use Rattle.rules.specs.declared.counts.Counts.{Counts}
 use Rattle.demands.specs.Polynomials.{value, set-value, StepKeeps}
-use Rattle.demands.proofs.Sound.{RightCounts, right-counts, SoundTable, sound-table}
+use Rattle.rules.proofs.Sound.{RightCounts, right-counts, SoundTable, sound-table}
 use Rattle.demands.proofs.Assigned.{values-length, values-digits, values-false, values-gate}
 use Rattle.demands.proofs.Value.{Digits, Capped, capped, bit-cases, set-value-out, mul-mod-mod, value-append, value-gather, times-literal-capped, value-times-literal}
 

@@ -22,7 +22,7 @@ use Rattle.rules.specs.declared.counts.Counts.{Counts}
 use Rattle.rules.proofs.Indices.{both}
 use Rattle.rules.proofs.Gathered.{gather-below, gather-coefficients, under-of}
 use Rattle.demands.specs.Polynomials.{value}
-use Rattle.demands.proofs.Sound.{RightCounts, SoundTable}
+use Rattle.rules.proofs.Sound.{RightCounts, SoundTable}
 use Rattle.demands.proofs.StepKeeps.{step-value}
 use Rattle.demands.proofs.Value.{bit-cases, bit-first, bit-next}
 

@@ -4,9 +4,9 @@ use mathlib.Core.Bool.{true, false}
 use mathlib.Core.List.{List, [], _∷_, _++_}
 use mathlib.Core.Logic.{_↔_}
 use Prim.Native.Nat.{ℕ, _+_, _*_, _^_, _<_}
-use lib.ListN.{length, getD, take, drop}
+use lib.ListN.{length, getD, drop}
 use Rattle.rules.specs.Each.{sum}
-use Rattle.rules.specs.Netlist.{gate, output, rhs0, rhs1, needed, counts-wrong, counts-right, table-short, table-sound}
+use Rattle.rules.specs.Netlist.{gate, output, rhs0, rhs1, needed, counts-wrong, table-short, table-sound}
 use Rattle.rules.specs.Says.{answers, word-says}
 use Rattle.rules.specs.Values.{width, bit, literal-value, Evaluated}
 use Rattle.rules.specs.Text.{text-of}

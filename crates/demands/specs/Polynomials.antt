@@ -1,9 +1,8 @@
 -- The polynomials behind the answers: the published specifications, and what a step keeps.
 use mathlib.Core.Path.{_≡_}
-use mathlib.Core.Bool.{true, false}
+use mathlib.Core.Bool.{true}
 use mathlib.Core.List.{List, [], _∷_, _++_}
 use Prim.Native.Nat.{ℕ, zero, suc, _+_, _-_, _*_, _/_, _%_, _^_, _<_, _≤_}
-use lib.ListN.{length}
 use Rattle.rules.specs.Each.{joined}
 use Rattle.rules.specs.Netlist.{output, counts-right, table-sound}
 use Rattle.rules.specs.Values.{width, values, shown}

@@ -3,19 +3,23 @@ use mathlib.Core.Path.{_≡_}
 use mathlib.Core.Bool.{Bool, true, false}
 use mathlib.Core.List.{List, [], _∷_, _++_}
 use mathlib.Core.Logic.{_⊎_, _↔_}
-use Prim.Native.Nat.{ℕ, _+_, _<_}
-use lib.ListN.{length}
+use Prim.Native.Nat.{ℕ, _<_, _≤_}
+use lib.ListN.{length, getD, take}
 use Rattle.rules.specs.Each.{each, joined}
-use Rattle.rules.specs.Says.{Says, refuses, says, text-says, word-says}
+use Rattle.rules.specs.Says.{refuses, says, text-says, word-says}
 use Rattle.rules.specs.Netlist.{output, output-sound, table-sound, counts-wrong, table-short}
 use Rattle.rules.specs.Values.{Evaluated, evaluate-checks}
 use Rattle.rules.specs.Judging.{Inputs, Judged, checks}
-use Rattle.rules.specs.Text.{header-text, input-text, output-text, text-of}
+use Rattle.rules.specs.Text.{line-feed, header-text, input-text, output-text, text-of}
 use Rattle.rules.specs.Reading.{ReadAs}
+use Rattle.rules.specs.Limits.{most-desk-bytes, most-desk-variables}
+use Rattle.rules.specs.Desk.{desk-table, desk-checks, kind-named, printed, Lined}
 use Rattle.rules.specs.declared.answers.Answer.{Answer}
+use Rattle.rules.specs.declared.answers.Line.{Line}
 use Rattle.rules.specs.declared.answers.Text.{Text}
 use Rattle.rules.specs.declared.answers.Word.{Word}
 use Rattle.rules.specs.declared.counts.Counts.{Counts}
+use Rattle.demands.specs.Netlists.{Written}
 
 -- k is the number of a check whose condition holds, and no check before it has one that holds
 abbrev pub First : List (ℕ × Bool) → ℕ → Type 0
@@ -103,3 +107,31 @@ abbrev pub ReadRefusalKeeps : Type 0
 ReadRefusalKeeps =
     (text table : List ℕ) (r : Text) (table-exit : List ℕ) → ReadAs text table r table-exit
     → (k : ℕ) → text-says r ≡ refuses k → table-exit ≡ table
+
+-- the desk's input is a kind line that names this kind, and a netlist text
+abbrev pub Asked : List ℕ → ℕ → List ℕ → Type 0
+Asked input kind text = (letter : ℕ) × (kind-named letter ≡ kind) × (kind < 3) × (input ≡ letter ∷ line-feed ∷ text)
+
+-- what is wrong with an input that the desk refuses with k, in the order of its checks: its length, its kind line, its text, M, and
+-- then what judging refuses
+pub data DeskUnfit (input : List ℕ) : ℕ → Type 0 where
+  long : most-desk-bytes < length input → DeskUnfit input 13
+  kindless : length input ≤ most-desk-bytes → ((kind : ℕ) (text : List ℕ) → Asked input kind text → ⊥) → DeskUnfit input 9
+  unread : length input ≤ most-desk-bytes → (kind : ℕ) (text : List ℕ) → Asked input kind text
+      → (k : ℕ) → Unread desk-table text k → DeskUnfit input k
+  large : length input ≤ most-desk-bytes → (kind : ℕ) (text : List ℕ) → Asked input kind text
+      → (c : Counts) (table : List ℕ) → Written text desk-table c table → most-desk-variables < c .m → DeskUnfit input 13
+  unjudged : length input ≤ most-desk-bytes → (kind : ℕ) (text : List ℕ) → Asked input kind text
+      → (c : Counts) (table : List ℕ) → Written text desk-table c table → c .m ≤ most-desk-variables
+      → (k : ℕ) → First (desk-checks kind c table) k → DeskUnfit input k
+
+-- the line of the desk
+abbrev pub line-of : Line → List ℕ
+line-of r = take (r .len) (r .bytes)
+
+-- the desk prints `X k` where that is wrong, and prints X for nothing else
+abbrev pub DeskRefusedExact : Type 0
+DeskRefusedExact =
+    (input : List ℕ) (r : Line) → Lined input r
+    → ((k : ℕ) → DeskUnfit input k → line-of r ≡ printed (refuses k))
+    × (getD (line-of r) 0 0 ≡ 88 → (k : ℕ) × DeskUnfit input k × (line-of r ≡ printed (refuses k)))

@@ -1,6 +1,6 @@
 -- Programs that do not do the work, each shut out by a row of the bench sheet: its outcome is not permitted.
 use mathlib.Core.Path.{_≡_}
-use mathlib.Core.List.{List, [], _∷_, _++_}
+use mathlib.Core.List.{List, [], _∷_}
 use Prim.Native.Nat.{ℕ}
 use lib.ListN.{getD, replicate}
 use Rattle.rules.specs.Judging.{Inputs, Judged}

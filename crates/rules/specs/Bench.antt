@@ -1,8 +1,8 @@
 -- The bench sheet of document 01, P1 to P11: one table of rows under one claim.
 use mathlib.Core.Path.{_≡_, refl}
-use mathlib.Core.Bool.{Bool, true, false, cond, not, xor, _&&_, _||_}
+use mathlib.Core.Bool.{Bool, true, false, xor, _&&_}
 use mathlib.Core.List.{List, [], _∷_, _++_}
-use Prim.Native.Nat.{ℕ, zero, suc, _+_, _-_, _*_, _/_, _%_, _^_}
+use Prim.Native.Nat.{ℕ, suc, _+_, _-_, _*_, _/_}
 use Prim.Native.Char.{code}
 use Prim.Native.String.{String, [] as empty, _∷_ as _then_}
 use lib.Count.{ones, onesIn}
@@ -11,16 +11,16 @@ use lib.ListN.{length, take, replicate}
 use Rattle.rules.specs.Each.{each, sum, joined, listed, every}
 use Rattle.rules.specs.Says.{Says, refuses, answers, first, refuse-or}
 use Rattle.rules.specs.Limits.{terms-wrong, steps-wrong}
-use Rattle.rules.specs.Netlist.{counts-right, needed, variable, inverted, gate, output, rhs0, rhs1, output-sound, gate-sound, table-sound, counts-wrong, table-short, table-unsound, reads}
+use Rattle.rules.specs.Netlist.{counts-right, needed, variable, inverted, gate, output, rhs0, rhs1, output-sound, gate-sound, table-sound, counts-wrong, table-short, table-unsound}
 use Rattle.rules.specs.Values.{width, bit, turned, literal-value, input-values, gate-value, values-to, values, shown}
 use Rattle.rules.specs.Product.{kind-of, kind-unknown, outputs-of, operand, negative, size, modulo, product}
 use Rattle.rules.specs.Polynomial.{keep, place, insert, gather, with-variable, times-variable, times-literal}
-use Rattle.rules.specs.Steps.{modulus, below-zero, product-term, start-terms, start, where-held, replaced, all-replaced, step, trail, run, times-named, honest}
+use Rattle.rules.specs.Steps.{modulus, below-zero, product-term, start-terms, start, where-held, replaced, all-replaced, step, trail, run}
 use Rattle.rules.specs.Judging.{Inputs, set-width, term-width, kind-wrong, is-gate, order-wrong, lent-short, judge-checks, roomy, held, completed, inputs-only, sooner, soonest, pair-a, pair-b, differs, ended, verdict, term-words, polynomial-words, padded, over, kept-or, checks, refusal, polynomials, judging, store-after, scratch-after, gates-after, terms-after}
 use Rattle.rules.specs.Text.{digits, decimal}
 use Rattle.rules.specs.Reading.{Netlist, netlist, refused, digit, leading-digits, value-from, well-written, behind, with-numbers, and-then, field, fields, word, header-line, tested, input-line, output-line, gate-line, lines, end-read, gates-read, outputs-read, inputs-read, counts-read, counts-of, header-read, reading}
 use Rattle.rules.specs.declared.counts.Counts.{Counts}
-use Rattle.rules.specs.Desk.{falling, desk-judging, desk-sized, desk-read, kind-named, desk-kind, desk-lines, desk-long, desk-says, letter, spaced, printed, desk-line}
+use Rattle.rules.specs.Desk.{falling, desk-checks, desk-judging, desk-sized, desk-read, kind-named, desk-kind, desk-lines, desk-long, desk-says, letter, spaced, printed, desk-line}
 
 -- the bytes of a text
 unfoldable pub bytes : String → List ℕ
@@ -175,5 +175,5 @@ bench = refl
 
 -- P9 as bytes through the desk's line
 desk-bench : desk-line (bytes "u\n" ++ desk-example) ≡ bytes "D 1 3 1 0 1 0\n"
-unfolding right bytes desk-example digits decimal falling desk-judging desk-sized desk-read kind-named desk-kind desk-lines desk-long desk-says letter spaced printed desk-line
+unfolding right bytes desk-example digits decimal falling desk-checks desk-judging desk-sized desk-read kind-named desk-kind desk-lines desk-long desk-says letter spaced printed desk-line
 desk-bench = refl

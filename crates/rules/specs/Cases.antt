@@ -13,7 +13,6 @@ use Rattle.rules.specs.Judging.{verdict}
 use Rattle.rules.specs.Text.{digits, decimal, fields-text, header-text, input-text, output-text, gate-text, text-of}
 use Rattle.rules.specs.Reading.{Netlist, netlist, refused, reading}
 use Rattle.rules.specs.Bench.{Row, bytes, same-says, sheet, and-block, two-bit-gates, two-bits, ten-down, right}
-use Rattle.rules.specs.declared.counts.Counts.{Counts}
 
 -- P1's block, kind, limit and order, with what is said; an answer leaves an empty store and 0 terms after each step
 unfoldable pub edge : ℕ → ℕ → List ℕ → Says → Row

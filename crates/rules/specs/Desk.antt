@@ -2,7 +2,7 @@
 use mathlib.Core.Path.{_≡_}
 use mathlib.Core.Bool.{Bool, true, false, cond, _&&_}
 use mathlib.Core.List.{List, [], _∷_, _++_}
-use Prim.Native.Nat.{ℕ, zero, suc, _+_, _-_, _*_}
+use Prim.Native.Nat.{ℕ, zero, suc, _-_, _*_}
 use lib.Dec.{ltb, eqb}
 use lib.ListN.{length, replicate}
 use Rattle.rules.specs.Each.{listed}
@@ -15,9 +15,9 @@ use Rattle.rules.specs.Text.{line-feed, space, decimal}
 use Rattle.rules.specs.declared.answers.Line.{Line}
 use Rattle.rules.specs.declared.counts.Counts.{Counts}
 
--- the bytes of the longest line that there is room for
+-- the bytes that a line has room for: a letter, six numbers of 64 bits each behind a space, and a line end
 abbrev pub line-room : ℕ
-line-room = 80
+line-room = 130
 
 -- the words of the desk's table: enough for every O and A within the limits
 abbrev pub desk-table : ℕ
@@ -27,14 +27,25 @@ desk-table = 2106
 unfoldable pub falling : Counts → List ℕ
 falling c = listed (c .a) (λ k. c .m - k)
 
--- judging with the desk's term limit and order, and buffers that are long enough
+-- the checks of judging with the desk's term limit and order, and buffers that are long enough
+unfoldable pub desk-checks : ℕ → Counts → List ℕ → List (ℕ × Bool)
+desk-checks kind c words =
+    judge-checks
+    c
+    words
+    kind
+    desk-terms
+    (falling c)
+    (desk-terms * term-width c)
+    (4 * desk-terms * term-width c)
+    (length (falling c))
+    (length (falling c))
+
+-- judging with them
 unfoldable pub desk-judging : ℕ → Counts → List ℕ → Says
 desk-judging kind c words =
-    let order = falling c in
-    let v = verdict (kind-of kind) c words desk-terms order in
-    refuse-or
-    (first (judge-checks c words kind desk-terms order (desk-terms * term-width c) (4 * desk-terms * term-width c) (length order) (length order)))
-    v
+    let v = verdict (kind-of kind) c words desk-terms (falling c) in
+    refuse-or (first (desk-checks kind c words)) v
 
 -- refusal 13 for M above 127, and else judging
 unfoldable pub desk-sized : ℕ → Counts → List ℕ → Bool → Says

@@ -1,12 +1,12 @@
 -- What the judge answers, and every lent word when it returns.
 use mathlib.Core.Path.{_≡_}
-use mathlib.Core.Bool.{Bool, true, false, not, cond, _||_, _&&_}
+use mathlib.Core.Bool.{Bool, not, cond, _||_, _&&_}
 use mathlib.Core.List.{List, [], _∷_, _++_, map}
 use Prim.Native.Nat.{ℕ, zero, suc, pred, _+_, _-_, _*_, _/_, _%_, _^_}
 use lib.Count.{ones}
 use lib.Dec.{leb, ltb, eqb}
 use lib.ListN.{length, getD, take, drop, replicate}
-use Rattle.rules.specs.Each.{each, every, joined, listed}
+use Rattle.rules.specs.Each.{every, listed}
 use Rattle.rules.specs.Limits.{terms-wrong, steps-wrong}
 use Rattle.rules.specs.Netlist.{counts-wrong, table-short, table-unsound}
 use Rattle.rules.specs.Values.{width, shown}

@@ -1,10 +1,10 @@
 -- The least and the most of what is taken, and what the maker of limits answers.
 use mathlib.Core.Path.{_≡_}
 use mathlib.Core.Bool.{Bool, _||_}
-use mathlib.Core.List.{List, [], _∷_}
-use Prim.Native.Nat.{ℕ, zero, suc}
+use mathlib.Core.List.{[], _∷_}
+use Prim.Native.Nat.{ℕ}
 use lib.Dec.{ltb}
-use Rattle.rules.specs.Says.{Says, refuses, answers, first, refuse-or, made-says}
+use Rattle.rules.specs.Says.{Says, answers, first, refuse-or, made-says}
 use Rattle.rules.specs.declared.limits.Made.{Made}
 
 -- the term limit T

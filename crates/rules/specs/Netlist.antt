@@ -1,9 +1,9 @@
 -- Counts, literals, tables, and when they are sound.
 use mathlib.Core.Bool.{Bool, not, _&&_, _||_}
 use mathlib.Core.List.{List}
-use Prim.Native.Nat.{ℕ, zero, suc, _+_, _-_, _*_, _/_, _%_}
+use Prim.Native.Nat.{ℕ, _+_, _-_, _*_, _/_, _%_}
 use lib.Dec.{leb, ltb, eqb}
-use lib.ListN.{length, getD}
+use lib.ListN.{getD}
 use Rattle.rules.specs.Each.{each}
 use Rattle.rules.specs.Limits.{most-variables, least-inputs, most-inputs, least-outputs, most-outputs}
 use Rattle.rules.specs.declared.counts.Counts.{Counts}

@@ -1,11 +1,11 @@
 -- Reading a netlist text, with the refusals in text order.
 use mathlib.Core.Path.{_≡_}
-use mathlib.Core.Bool.{Bool, true, false, cond, not, _&&_, _||_}
+use mathlib.Core.Bool.{Bool, cond, not, _&&_, _||_}
 use mathlib.Core.List.{List, [], _∷_, _++_}
-use Prim.Native.Nat.{ℕ, zero, suc, _+_, _-_, _*_, _/_, _%_}
-use lib.Dec.{leb, ltb, eqb}
+use Prim.Native.Nat.{ℕ, zero, suc, _+_, _-_, _*_}
+use lib.Dec.{leb, eqb}
 use lib.ListN.{length, getD, drop}
-use Rattle.rules.specs.Netlist.{gate, needed, counts-wrong, table-short, output-sound, gate-sound}
+use Rattle.rules.specs.Netlist.{gate, counts-wrong, table-short, output-sound, gate-sound}
 use Rattle.rules.specs.Says.{Says, refuses, answers, first, text-says}
 use Rattle.rules.specs.Text.{line-feed, space, header-word}
 use Rattle.rules.specs.declared.answers.Text.{Text}

@@ -1,5 +1,5 @@
 -- What an answer says, in the numbers of document 01, and the first refusal in an order of checks.
-use mathlib.Core.Bool.{Bool, true, false, cond}
+use mathlib.Core.Bool.{Bool, cond}
 use mathlib.Core.List.{List, [], _∷_}
 use Prim.Native.Nat.{ℕ, zero, suc}
 use Rattle.rules.specs.declared.answers.Answer.{Answer}

@@ -1,8 +1,8 @@
 -- The start polynomial, a step, and the polynomials after every number of steps.
-use mathlib.Core.Bool.{Bool, true, false, not, xor, cond, _||_, _&&_}
+use mathlib.Core.Bool.{Bool, false, not, xor, cond, _||_, _&&_}
 use mathlib.Core.List.{List, [], _∷_, _++_}
-use Prim.Native.Nat.{ℕ, zero, suc, _+_, _-_, _*_, _/_, _%_, _^_}
-use lib.Dec.{leb, ltb, eqb}
+use Prim.Native.Nat.{ℕ, zero, suc, _+_, _-_, _%_, _^_}
+use lib.Dec.{ltb, eqb}
 use lib.ListN.{length, getD}
 use Rattle.rules.specs.Each.{each, joined}
 use Rattle.rules.specs.Netlist.{gate, output, rhs0, rhs1, reads}

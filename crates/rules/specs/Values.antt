@@ -2,7 +2,7 @@
 use mathlib.Core.Path.{_≡_}
 use mathlib.Core.Bool.{Bool}
 use mathlib.Core.List.{List, [], _∷_, _++_}
-use Prim.Native.Nat.{ℕ, zero, suc, _+_, _-_, _*_, _/_, _%_, _^_}
+use Prim.Native.Nat.{ℕ, zero, suc, _-_, _*_, _/_, _%_, _^_}
 use lib.ListN.{length, getD}
 use Rattle.rules.specs.Each.{sum, listed}
 use Rattle.rules.specs.Netlist.{variable, inverted, gate, output, rhs0, rhs1, counts-wrong, table-short, table-unsound}

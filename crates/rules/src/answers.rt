@@ -40,6 +40,6 @@ pub enum Answer {
 
 // Of the desk program: the bytes of its line, then zeros, and how many bytes the line has.
 pub struct Line {
-    pub bytes: [u8; 80],
+    pub bytes: [u8; 130],
     pub len: usize,
 }

@@ -1,16 +1,16 @@
 -- What right counts and a sound table say, by name.
 use mathlib.Core.Path.{_≡_}
-use mathlib.Core.Bool.{Bool, true, _&&_}
+use mathlib.Core.Bool.{Bool, true, false, _&&_}
 use mathlib.Core.List.{List}
 use Prim.Native.Nat.{ℕ, _+_, _-_, _*_, _%_, _<_, _≤_}
 use native.Mathlib.Omega.{arith}
 use lib.Dec.{leb, ltb, eqb}
-use borrow.Author.Tests.{eqb-true, leb-true, ltb-true}
+use borrow.Author.Tests.{eqb-true, leb-true, ltb-true, not-false}
 use Rattle.rules.specs.Each.{each}
-use Rattle.rules.specs.Netlist.{counts-right, variable, gate, output, rhs0, rhs1, output-sound, gate-sound, table-sound}
+use Rattle.rules.specs.Netlist.{counts-right, counts-wrong, variable, gate, output, rhs0, rhs1, output-sound, gate-sound, table-sound}
 use Rattle.rules.specs.Values.{width}
 use Rattle.rules.proofs.Indices.{both, each-at}
 use Rattle.rules.specs.declared.counts.Counts.{Counts}
 
 -- counts within their limits
 pub record RightCounts (c : Counts) : Type 0 where
@@ -92,3 +92,8 @@ sound-table c table h =
           let own : c .i + 1 + (v - (c .i + 1)) ≡ v = omega arith in
           gate-facts c table v (rw own at (each-at (c .a) _ (parts .1) (v - (c .i + 1)) (omega arith)));
     }
+
+-- counts that are not wrong are within their limits
+pub not-wrong : (c : Counts) → counts-wrong c ≡ false → RightCounts c
+unfolding counts-wrong
+not-wrong c h = right-counts c (not-false (counts-right c) h)

@@ -1,0 +1,2 @@
+-- What the parts of the evaluator ask for.
+pub mod Taken

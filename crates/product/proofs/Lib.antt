@@ -1,0 +1,2 @@
+-- The laws that the proofs of the wanted word share.
+pub mod Readings

@@ -18,6 +18,16 @@ impl Rules {
         all.extend(of_desk());
         all
     }
+
+    /// The mutants whose name begins with the function.
+    pub fn mutants_of(function: &str) -> Vec<Mutant> {
+        let mut mutants = Rules::mutants();
+        mutants.retain(|(name, _)| {
+            let functions = name.split(": ").next().unwrap_or(name);
+            functions.split(", ").any(|other| other == function)
+        });
+        mutants
+    }
 }
 
 fn bend(name: &'static str, change: fn(&mut Rules)) -> Mutant {

@@ -65,6 +65,23 @@ pub fn random_sound(random: &mut Random, inputs: u32, outputs: u32, gates: u32) 
     Made::new(inputs, &shown, &pairs)
 }
 
+/// A sound netlist: mostly small, sometimes of any size, now and then with M 1,023. Of the larger ones some have I or O 64.
+pub fn random_size(random: &mut Random) -> Made {
+    let inputs = (2 * (1 + random.below(40)) as u32).min(64);
+    let outputs = (1 + random.below(80) as u32).min(64);
+    match random.below(16) {
+        0 => random_sound(random, inputs, outputs, 1_023 - inputs),
+        1..=4 => {
+            let gates = random.below(80) as u32;
+            random_sound(random, inputs, outputs, gates)
+        }
+        _ => {
+            let gates = random.below(8) as u32;
+            random_sound(random, 2 + inputs % 6, 1 + outputs % 6, gates)
+        }
+    }
+}
+
 fn literal_below(random: &mut Random, past: u32) -> u32 {
     let near = random.one_in(2);
     let span = if near { past.min(8) } else { past };

@@ -9,21 +9,10 @@ use second::{desk_by, Rules};
 
 const RANDOM_CASES: u64 = 400;
 
-/// The mutants whose name begins with the function.
-fn mutants_of(function: &str) -> Vec<(&'static str, Rules)> {
-    Rules::mutants()
-        .into_iter()
-        .filter(|(name, _)| {
-            let functions = name.split(": ").next().unwrap();
-            functions.split(", ").any(|other| other == function)
-        })
-        .collect()
-}
-
 /// Asserts that some case shows something else by each mutant's rules than by the document's.
 fn all_are_caught<C, S: PartialEq>(function: &str, cases: Vec<C>, seen: impl Fn(&C, &Rules) -> S) {
     let right: Vec<S> = cases.iter().map(|case| seen(case, &DOCUMENT)).collect();
-    let mutants = mutants_of(function);
+    let mutants = Rules::mutants_of(function);
     assert!(mutants.len() >= 5);
     for (name, bent) in mutants {
         let told_apart = |(case, right): &(&C, &S)| seen(case, &bent) != **right;

@@ -4,10 +4,13 @@
 //! word. The words are marked beforehand, so a word that was left alone can
 //! be told from one that was written.
 
+pub mod damages;
 pub mod desks;
 pub mod judgements;
 pub mod pairs;
+pub mod runs;
 pub mod texts;
+pub mod wrong;
 
 /// Words that no answer leaves by chance.
 pub fn marked_words(count: usize) -> Vec<u64> {

@@ -1,8 +1,10 @@
 //! Cases for the evaluator of one operand pair.
 
 use super::texts::made_at_limits;
-use crate::netlists::{random_sound, Made};
+use super::{marked_numbers, wrong};
+use crate::netlists::{random_size, random_sound, Made};
 use crate::random::Random;
+use crate::reading::low_bits;
 use crate::rules::Rules;
 use crate::table::{evaluate_by, Counts};
 
@@ -114,6 +116,70 @@ pub fn random(random: &mut Random) -> PairCase {
         table.push(random.word() as u32);
     }
     let (a, b) = (random.word(), random.word());
+    PairCase {
+        counts,
+        table,
+        a,
+        b,
+    }
+}
+
+/// A sound netlist of any size, any O, at any pair; sometimes with words past its table.
+pub fn sound(random: &mut Random) -> PairCase {
+    let Made { counts, mut table } = random_size(random);
+    if random.one_in(4) {
+        table.extend(marked_numbers(1 + random.below(6)));
+    }
+    let n = counts.n();
+    let (a, b) = (operand(random, n), operand(random, n));
+    PairCase {
+        counts,
+        table,
+        a,
+        b,
+    }
+}
+
+/// A word with bits of the operand, with bits from n up, or with both.
+fn operand(random: &mut Random, n: u32) -> u64 {
+    let word = random.word();
+    match random.below(4) {
+        0 => word & low_bits(n),
+        1 => word & !low_bits(n),
+        2 => 1 << random.below(64),
+        _ => word,
+    }
+}
+
+/// A sound case but for its counts.
+pub fn of_wrong_counts(random: &mut Random) -> PairCase {
+    let mut case = sound(random);
+    case.counts = wrong::wrong_counts(random, case.counts);
+    case
+}
+
+/// A sound case but for its table, which is too short.
+pub fn of_short_table(random: &mut Random) -> PairCase {
+    let mut case = sound(random);
+    let needed = case.counts.table_words() as usize;
+    let left = if random.one_in(2) {
+        needed - 1
+    } else {
+        random.below(needed)
+    };
+    case.table.truncate(left);
+    case
+}
+
+/// A sound case but for one word of its table.
+pub fn of_unsound_table(random: &mut Random) -> PairCase {
+    let PairCase {
+        counts,
+        table,
+        a,
+        b,
+    } = sound(random);
+    let Made { counts, table } = wrong::unsound(random, &Made { counts, table });
     PairCase {
         counts,
         table,

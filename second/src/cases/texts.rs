@@ -178,7 +178,8 @@ pub fn change(random: &mut Random, text: &mut Vec<u8>) {
     }
 }
 
-fn swap_lines(random: &mut Random, text: &mut Vec<u8>) {
+/// Two lines in each other's place.
+pub fn swap_lines(random: &mut Random, text: &mut Vec<u8>) {
     let mut lines: Vec<Vec<u8>> = text
         .split_inclusive(|&byte| byte == b'\n')
         .map(<[u8]>::to_vec)

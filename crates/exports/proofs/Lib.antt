@@ -1,0 +1,2 @@
+-- The laws of the proofs of exports.
+pub mod Givings

@@ -1,0 +1,2 @@
+-- What the functions for C and Rust hosts give back.
+pub mod Exported

@@ -1,0 +1,3 @@
+// The entry points for C and Rust hosts, on numbers and slices. include/hraskell.h has their prototypes.
+pub mod evaluating; // evaluating.rt: hraskell_evaluate
+pub mod reading; // reading.rt: hraskell_read

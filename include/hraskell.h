@@ -1,0 +1,148 @@
+/*
+ * Hraskell: a judge of combinational multiplier netlists, proved in Rattle.
+ *
+ * Three functions on numbers and lent buffers. They keep nothing between
+ * calls and hold on to no pointer. Link with libexports.a.
+ *
+ * The caller's duties, for every call:
+ *   - Every pointer is non-null, suitably aligned, and points to at least as
+ *     many elements as the length after it says. This holds for length 0 too.
+ *   - A buffer that is written overlaps no other buffer of the same call.
+ *     Buffers marked const are only read.
+ * Nothing else is asked: counts, tables, texts, orders and numbers may be
+ * anything, and what is wrong is refused. A refusal changes no lent word.
+ *
+ * The numbers of document 01 are used throughout. A text is ASCII AIGER. A
+ * table is 32-bit words: the O outputs, then rhs0 and rhs1 for each gate,
+ * O + 2A words; words past these may be there and are neither read nor
+ * written.
+ */
+#ifndef HRASKELL_H
+#define HRASKELL_H
+
+#include <stddef.h>
+#include <stdint.h>
+
+#ifdef __cplusplus
+extern "C" {
+#endif
+
+/* Reading and evaluating: it was done. */
+#define HRASKELL_DONE 0u
+
+/* Judging: the answers. */
+#define HRASKELL_EQUAL 0u       /* E: the last polynomial is zero */
+#define HRASKELL_DIFFERS 1u     /* D: it is not zero and has no gate variable */
+#define HRASKELL_OUT_OF_ROOM 2u /* R: more than T terms */
+#define HRASKELL_UNFINISHED 3u  /* U: a gate variable occurs at the end */
+
+/* Refusals: 100 plus the number of document 01. */
+#define HRASKELL_REFUSED_HEADER 101u      /* header line malformed or cut short */
+#define HRASKELL_REFUSED_COUNTS 102u      /* a count outside its limits */
+#define HRASKELL_REFUSED_TABLE_SHORT 103u /* table shorter than O + 2A */
+#define HRASKELL_REFUSED_INPUT_LINE 104u  /* input line wrong */
+#define HRASKELL_REFUSED_OUTPUT_LINE 105u /* output line wrong */
+#define HRASKELL_REFUSED_GATE_LINE 106u   /* gate line wrong */
+#define HRASKELL_REFUSED_BYTES_AFTER 107u /* bytes after the last gate line */
+#define HRASKELL_REFUSED_UNSOUND 108u     /* an output or gate of the table breaks the literal rules */
+#define HRASKELL_REFUSED_KIND 109u        /* kind unknown, or O is not l */
+#define HRASKELL_REFUSED_LIMIT 110u       /* T outside 128..16,384 */
+#define HRASKELL_REFUSED_ORDER 111u       /* order too long, or names something that is no gate */
+#define HRASKELL_REFUSED_LENT_SHORT 112u  /* a buffer to be written is too short */
+
+/* Kinds. */
+#define HRASKELL_PLAIN 0u     /* u: 2n outputs, both operands plain */
+#define HRASKELL_SIGNED 1u    /* s: 2n outputs, both operands two's complement */
+#define HRASKELL_TRUNCATED 2u /* t: n outputs, the product modulo 2^n */
+
+/* Limits and least lengths. */
+#define HRASKELL_TABLE_WORDS_MOST 2106u /* no netlist needs a longer table */
+#define HRASKELL_COUNT_WORDS 5u
+#define HRASKELL_ANSWER_WORDS 6u
+#define HRASKELL_TERMS_LEAST 128u
+#define HRASKELL_TERMS_MOST 16384u
+#define HRASKELL_STEPS_MOST 4096u
+
+/* W + 1: the 64-bit words of one term, for a netlist of M variables. */
+#define HRASKELL_TERM_WORDS(m) ((size_t)(m) / 64u + 2u)
+/* The least words of store and scratch, for M variables and the term limit T. */
+#define HRASKELL_STORE_WORDS(m, t) ((size_t)(t) * HRASKELL_TERM_WORDS(m))
+#define HRASKELL_SCRATCH_WORDS(m, t) (4u * HRASKELL_STORE_WORDS(m, t))
+
+/*
+ * Reads a netlist text.
+ *
+ *   text    lent for reading: text_length bytes, with no end mark
+ *   table   lent for writing: at least O + 2A words, else refused 103
+ *   counts  lent for writing: at least 5 words, else refused 112, checked first
+ *
+ * Gives HRASKELL_DONE, the table in its first O + 2A words and M, I, L, O, A
+ * in the first five of counts; words past these keep their values. Or gives
+ * a refusal: 112, then 101 to 107 in text order.
+ */
+uint32_t hraskell_read(
+    const uint8_t *text, size_t text_length,
+    uint32_t *table, size_t table_length,
+    uint32_t *counts, size_t counts_length);
+
+/*
+ * Evaluates a netlist at one operand pair.
+ *
+ *   m, i, l, o, a  the counts M, I, L, O, A
+ *   table          lent for reading: at least O + 2A words, else refused 103
+ *   x, y           the operands a and b; bits from n = I/2 up are treated as absent
+ *   word           lent for writing: at least 1 word, else refused 112, checked first
+ *
+ * Gives HRASKELL_DONE and in word[0] the word of O bits that the outputs
+ * show, output 0 lowest; other words keep their values. O need not be that
+ * of a kind. Or gives a refusal: 112, 102, 103, 108, in this order.
+ */
+uint32_t hraskell_evaluate(
+    uint32_t m, uint32_t i, uint32_t l, uint32_t o, uint32_t a,
+    const uint32_t *table, size_t table_length,
+    uint64_t x, uint64_t y,
+    uint64_t *word, size_t word_length);
+
+/*
+ * Judges a netlist under a kind.
+ *
+ *   m, i, l, o, a  the counts M, I, L, O, A
+ *   table          lent for reading: at least O + 2A words, else refused 103
+ *   kind           HRASKELL_PLAIN, HRASKELL_SIGNED or HRASKELL_TRUNCATED
+ *   limit          T, the most terms that are held: 128 to 16,384
+ *   order          lent for reading: 0 to 4,096 gate variables, one for each step
+ *   store          lent for writing: at least T(W + 1) words
+ *   scratch        lent for writing: at least 4T(W + 1) words
+ *   gates, terms   lent for writing, the step log: at least one word each for each step of the order
+ *   answer         lent for writing: at least 6 words, else refused 112, checked first
+ *
+ * Gives the number of the answer and, in answer,
+ *   E, U  steps done, terms held
+ *   R     the step at which there was no room (0 is the start), terms held
+ *   D     steps done, terms held, a, b, word got, word wanted
+ * Other words of answer keep their values. Afterwards store has the last
+ * polynomial of at most T terms, W + 1 words for each (the coefficient, then
+ * the set of variables, v at bit v mod 64 of word v/64), sets falling when
+ * read as one number, then zeros to its end; scratch is all zeros to its end;
+ * gates[k] and terms[k] are the gate of step k + 1 and the terms after it, for
+ * each step completed, and other words of both keep their values.
+ *
+ * Or gives a refusal: 112 for answer, then 102, 103, 108, 109, 110, 111, and
+ * 112 for store, scratch, gates or terms, in this order.
+ */
+uint32_t hraskell_judge(
+    uint32_t m, uint32_t i, uint32_t l, uint32_t o, uint32_t a,
+    const uint32_t *table, size_t table_length,
+    uint32_t kind, uint64_t limit,
+    const uint32_t *order, size_t order_length,
+    uint64_t *store, size_t store_length,
+    uint64_t *scratch, size_t scratch_length,
+    uint32_t *gates, size_t gates_length,
+    uint32_t *terms, size_t terms_length,
+    uint64_t *answer, size_t answer_length);
+
+#ifdef __cplusplus
+}
+#endif
+
+#endif

@@ -1,0 +1,159 @@
+//! The second program behind the exported functions' own rules: numbers in place of answers, words in place of values.
+
+use second::rules::LENT_SHORT;
+use second::{evaluate_by, judge_by, read_by, Answer, Counts, Lent, Rules};
+
+/// Added to a number of refusal.
+const REFUSED: u32 = 100;
+/// M, I, L, O, A.
+const COUNT_WORDS: usize = 5;
+/// Steps, terms, a, b, got, wanted.
+const ANSWER_WORDS: usize = 6;
+
+/// What the exported functions add to the rules of the document.
+#[derive(Clone, Copy)]
+struct Boundary {
+    own_buffer_is_measured_first: bool,
+    other_words_are_kept: bool,
+    refusal_changes_nothing: bool,
+}
+
+/// The second program as it would be exported.
+#[derive(Clone, Copy)]
+pub struct Mirror {
+    rules: Rules,
+    boundary: Boundary,
+}
+
+/// A call of the judge, without the words for its answer.
+pub struct Question<'a> {
+    pub counts: Counts,
+    pub table: &'a [u32],
+    pub kind: u32,
+    pub limit: u64,
+    pub order: &'a [u32],
+    pub lent: Lent<'a>,
+}
+
+impl Mirror {
+    pub const fn of_document() -> Mirror {
+        Mirror {
+            rules: Rules::of_document(),
+            boundary: Boundary {
+                own_buffer_is_measured_first: true,
+                other_words_are_kept: true,
+                refusal_changes_nothing: true,
+            },
+        }
+    }
+
+    /// The mutants of the second program for this function, then those of the boundary.
+    pub fn mutants_of(function: &str) -> Vec<(&'static str, Mirror)> {
+        let right = Mirror::of_document();
+        let bent = Rules::mutants_of(function).into_iter();
+        let mut mutants: Vec<(&'static str, Mirror)> = bent
+            .map(|(name, rules)| (name, Mirror { rules, ..right }))
+            .collect();
+        mutants.extend([
+            bend("own buffer measured last", |boundary| {
+                boundary.own_buffer_is_measured_first = false
+            }),
+            bend("other words cleared", |boundary| {
+                boundary.other_words_are_kept = false
+            }),
+            bend("a refusal clears the words", |boundary| {
+                boundary.refusal_changes_nothing = false
+            }),
+        ]);
+        mutants
+    }
+
+    pub fn read(&self, text: &[u8], table: &mut [u32], counts: &mut [u32]) -> u32 {
+        self.bounded(counts, COUNT_WORDS, || {
+            let Counts { m, i, l, o, a } = read_by(&self.rules, text, table)?;
+            Ok((0, vec![m, i, l, o, a]))
+        })
+    }
+
+    pub fn evaluate(&self, counts: Counts, table: &[u32], x: u64, y: u64, word: &mut [u64]) -> u32 {
+        self.bounded(word, 1, || {
+            Ok((0, vec![evaluate_by(&self.rules, counts, table, x, y)?]))
+        })
+    }
+
+    pub fn judge(&self, question: Question, answer: &mut [u64]) -> u32 {
+        self.bounded(answer, ANSWER_WORDS, || {
+            let Question {
+                counts,
+                table,
+                kind,
+                limit,
+                order,
+                lent,
+            } = question;
+            numbered(judge_by(
+                &self.rules,
+                counts,
+                table,
+                kind,
+                limit,
+                order,
+                lent,
+            ))
+        })
+    }
+
+    /// Measures the buffer of the result, asks, and leaves the number and the words of what was answered.
+    fn bounded<T: Copy + Default>(
+        &self,
+        buffer: &mut [T],
+        needed: usize,
+        ask: impl FnOnce() -> Result<(u32, Vec<T>), u32>,
+    ) -> u32 {
+        let is_short = buffer.len() < needed;
+        if is_short && self.boundary.own_buffer_is_measured_first {
+            return REFUSED + LENT_SHORT;
+        }
+        let (number, words) = match ask() {
+            Ok(_) if is_short => return REFUSED + LENT_SHORT,
+            Ok(answered) => answered,
+            Err(refusal) => {
+                if !self.boundary.refusal_changes_nothing {
+                    buffer.fill(T::default());
+                }
+                return REFUSED + refusal;
+            }
+        };
+        buffer[..words.len()].copy_from_slice(&words);
+        if !self.boundary.other_words_are_kept {
+            buffer[words.len()..].fill(T::default());
+        }
+        number
+    }
+}
+
+/// The second program by the document's rules, behind a boundary with one rule bent.
+fn bend(name: &'static str, change: fn(&mut Boundary)) -> (&'static str, Mirror) {
+    let mut mutant = Mirror::of_document();
+    change(&mut mutant.boundary);
+    (name, mutant)
+}
+
+/// The number of an answer and the words that go with it.
+fn numbered(answer: Answer) -> Result<(u32, Vec<u64>), u32> {
+    let (number, words) = match answer {
+        Answer::Equal { steps, terms } => (0, vec![steps.into(), terms.into()]),
+        Answer::Differs {
+            steps,
+            terms,
+            a,
+            b,
+            got,
+            wanted,
+        } => (1, vec![steps.into(), terms.into(), a, b, got, wanted]),
+        Answer::OutOfRoom { step, terms } => (2, vec![step.into(), terms.into()]),
+        Answer::Unfinished { steps, terms } => (3, vec![steps.into(), terms.into()]),
+        Answer::Refused(number) => return Err(number),
+    };
+    Ok((number, words))
+}

@@ -1,0 +1,94 @@
+//! The evaluator of one operand pair: the library against the second program.
+
+use compare::mirror::Mirror;
+use compare::outcome::{first_difference, numbers_given, Guarded, Outcome};
+use second::cases::pairs::{self, PairCase};
+use second::random::Random;
+use second::Counts;
+use std::sync::LazyLock;
+
+type Generator = fn(&mut Random) -> PairCase;
+
+/// Each generator of cases, and how many are taken from it.
+const GENERATORS: [(u64, Generator); 5] = [
+    (9_000, pairs::sound),
+    (4_000, pairs::random),
+    (4_000, pairs::of_wrong_counts),
+    (2_000, pairs::of_short_table),
+    (4_000, pairs::of_unsound_table),
+];
+
+#[derive(Debug)]
+struct EvaluateCase {
+    pair: PairCase,
+    result_words: usize,
+}
+
+impl EvaluateCase {
+    /// What a call on fresh buffers leaves, whoever answers it.
+    fn outcome(&self, evaluator: impl Fn(Counts, &[u32], u64, u64, &mut [u64]) -> u32) -> Outcome {
+        let PairCase { counts, a, b, .. } = self.pair;
+        let table = Guarded::holding(&self.pair.table);
+        let mut word = Guarded::<u64>::marked(self.result_words);
+        let number = evaluator(counts, table.lent(), a, b, word.lent_mut());
+        Outcome {
+            number,
+            buffers: vec![table.named("table"), word.named("word")],
+        }
+    }
+
+    fn by(&self, mirror: &Mirror) -> Outcome {
+        self.outcome(|counts, table, x, y, word| mirror.evaluate(counts, table, x, y, word))
+    }
+}
+
+/// Made once for all tests of this file.
+static CASES: LazyLock<Vec<EvaluateCase>> = LazyLock::new(cases);
+
+fn cases() -> Vec<EvaluateCase> {
+    let mut cases = Vec::new();
+    for pair in pairs::edges() {
+        for result_words in [1, 0, 3] {
+            let pair = pair.clone();
+            cases.push(EvaluateCase { pair, result_words });
+        }
+    }
+    let mut random = Random::new(2);
+    for (count, generator) in GENERATORS {
+        for _ in 0..count {
+            let pair = generator(&mut random);
+            let result_words = random.pick(&[0, 1, 1, 1, 1, 1, 1, 2, 4]);
+            cases.push(EvaluateCase { pair, result_words });
+        }
+    }
+    cases
+}
+
+#[test]
+fn evaluating_gives_the_same_numbers_and_words() {
+    assert!(CASES.len() >= 20_000);
+    println!("{} cases of evaluating", CASES.len());
+    let document = Mirror::of_document();
+    let library = |case: &EvaluateCase| case.outcome(compare::evaluate);
+    let difference = first_difference(&CASES, library, |case| case.by(&document));
+    assert!(difference.is_none(), "{}", difference.unwrap());
+}
+
+#[test]
+fn the_cases_of_evaluating_meet_every_number() {
+    let document = Mirror::of_document();
+    let numbers = numbers_given(&CASES, |case| case.by(&document));
+    assert_eq!(numbers, [0, 102, 103, 108, 112]);
+}
+
+#[test]
+fn the_cases_of_evaluating_tell_every_mutant() {
+    let document = Mirror::of_document();
+    let mutants = Mirror::mutants_of("evaluate");
+    assert!(mutants.len() >= 5);
+    for (name, mutant) in &mutants {
+        let told = first_difference(&CASES, |case| case.by(mutant), |case| case.by(&document));
+        assert!(told.is_some(), "{name}: no case of evaluating tells it");
+    }
+    println!("{} mutants of evaluating told", mutants.len());
+}

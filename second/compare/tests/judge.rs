@@ -1,0 +1,357 @@
+//! Judging: the library against the second program.
+
+use compare::mirror::{Mirror, Question};
+use compare::outcome::{first_difference, numbers_given, Guarded, Outcome};
+use second::cases::judgements::{self, and_netlist, two_bits, JudgeCase};
+use second::cases::runs;
+use second::netlists::{random_sound, Made};
+use second::orders;
+use second::random::Random;
+use second::Lent;
+use std::sync::LazyLock;
+
+/// The library's judge is declared here and not beside the others, so that they link without it.
+mod library {
+    use compare::mirror::Question;
+    use second::Counts;
+
+    extern "C" {
+        fn hraskell_judge(
+            m: u32,
+            i: u32,
+            l: u32,
+            o: u32,
+            a: u32,
+            table: *const u32,
+            table_words: usize,
+            kind: u32,
+            limit: u64,
+            order: *const u32,
+            order_words: usize,
+            store: *mut u64,
+            store_words: usize,
+            scratch: *mut u64,
+            scratch_words: usize,
+            gates: *mut u32,
+            gates_words: usize,
+            terms: *mut u32,
+            terms_words: usize,
+            answer: *mut u64,
+            answer_words: usize,
+        ) -> u32;
+    }
+
+    pub fn judge(question: Question, answer: &mut [u64]) -> u32 {
+        let Counts { m, i, l, o, a } = question.counts;
+        let (table, order, lent) = (question.table, question.order, question.lent);
+        // SAFETY: slices are never null, and those lent for writing overlap nothing.
+        unsafe {
+            hraskell_judge(
+                m,
+                i,
+                l,
+                o,
+                a,
+                table.as_ptr(),
+                table.len(),
+                question.kind,
+                question.limit,
+                order.as_ptr(),
+                order.len(),
+                lent.store.as_mut_ptr(),
+                lent.store.len(),
+                lent.scratch.as_mut_ptr(),
+                lent.scratch.len(),
+                lent.gates.as_mut_ptr(),
+                lent.gates.len(),
+                lent.terms.as_mut_ptr(),
+                lent.terms.len(),
+                answer.as_mut_ptr(),
+                answer.len(),
+            )
+        }
+    }
+}
+
+#[derive(Clone, Debug)]
+struct Call {
+    case: JudgeCase,
+    answer_words: usize,
+}
+
+impl Call {
+    /// A call with just the words that an answer needs.
+    fn new(case: JudgeCase) -> Call {
+        Call {
+            case,
+            answer_words: 6,
+        }
+    }
+
+    /// What a call on fresh buffers leaves, whoever answers it.
+    fn outcome(&self, judge: impl Fn(Question, &mut [u64]) -> u32) -> Outcome {
+        let case = &self.case;
+        let table = Guarded::holding(&case.table);
+        let order = Guarded::holding(&case.order);
+        let mut store = Guarded::<u64>::marked(case.store_words);
+        let mut scratch = Guarded::<u64>::marked(case.scratch_words);
+        let mut gates = Guarded::<u32>::marked(case.gate_records);
+        let mut terms = Guarded::<u32>::marked(case.term_records);
+        let mut answer = Guarded::<u64>::marked(self.answer_words);
+        let question = Question {
+            counts: case.counts,
+            table: table.lent(),
+            kind: case.kind,
+            limit: case.limit,
+            order: order.lent(),
+            lent: Lent {
+                store: store.lent_mut(),
+                scratch: scratch.lent_mut(),
+                gates: gates.lent_mut(),
+                terms: terms.lent_mut(),
+            },
+        };
+        let number = judge(question, answer.lent_mut());
+        Outcome {
+            number,
+            buffers: vec![
+                answer.named("answer"),
+                store.named("store"),
+                gates.named("gates"),
+                terms.named("terms"),
+                scratch.named("scratch"),
+                table.named("table"),
+                order.named("order"),
+            ],
+        }
+    }
+
+    fn by_library(&self) -> Outcome {
+        self.outcome(library::judge)
+    }
+
+    fn by(&self, mirror: &Mirror) -> Outcome {
+        self.outcome(|question, answer| mirror.judge(question, answer))
+    }
+}
+
+/// Made once for all tests of this file.
+static CALLS: LazyLock<Vec<Call>> = LazyLock::new(calls);
+
+fn calls() -> Vec<Call> {
+    let named = named().into_iter();
+    let mut calls: Vec<Call> = named.map(|(_, case, _)| Call::new(case)).collect();
+    calls.extend(edge_calls());
+    let mut random = Random::new(3);
+    calls.extend(room_calls(&mut random));
+    calls.extend(size_calls(&mut random));
+    calls.extend(refusal_calls(&mut random));
+    calls.extend(runs::real_blocks().into_iter().map(Call::new));
+    for _ in 0..3_500 {
+        let mut case = judgements::random(&mut random);
+        if random.one_in(2) {
+            runs::lend_more(&mut random, &mut case);
+        }
+        let answer_words = random.pick(&[6, 6, 6, 6, 6, 6, 7, 11, 5]);
+        calls.push(Call { case, answer_words });
+    }
+    calls
+}
+
+/// The edges of judging, with words for the answer that are just enough, more, one too few and none.
+fn edge_calls() -> Vec<Call> {
+    let mut calls = Vec::new();
+    for case in judgements::edges() {
+        for answer_words in [6, 9] {
+            let case = case.clone();
+            calls.push(Call { case, answer_words });
+        }
+    }
+    for (place, case) in judgements::edges().into_iter().enumerate() {
+        let answer_words = [5, 0][place % 2];
+        calls.push(Call { case, answer_words });
+    }
+    calls
+}
+
+/// T at and around the number of terms, at the start and later, and at its largest.
+fn room_calls(random: &mut Random) -> Vec<Call> {
+    let mut cases = runs::around_largest_limit();
+    for _ in 0..150 {
+        cases.extend(runs::around_terms(random));
+        cases.extend(runs::around_start(random));
+    }
+    for limit in [128, 144, 160, 168, 169, 170] {
+        cases.extend((0..10).map(|_| runs::twelve_bits(random, limit)));
+    }
+    for case in cases.iter_mut().step_by(2) {
+        runs::lend_more(random, case);
+    }
+    cases.into_iter().map(Call::new).collect()
+}
+
+/// M at the borders of words and at its most, I 64, and the longest orders.
+fn size_calls(random: &mut Random) -> Vec<Call> {
+    let mut cases: Vec<JudgeCase> = (0..200).map(|_| runs::at_word_borders(random)).collect();
+    for steps in [4_095, 4_096, 4_097] {
+        cases.extend((0..6).map(|_| runs::long_order(random, steps)));
+    }
+    let largest = random_sound(random, 64, 64, 959);
+    for kind in 0..2 {
+        let order = orders::falling(largest.counts)[..20].to_vec();
+        cases.push(JudgeCase::new(&largest, kind, 16_384, order));
+    }
+    cases.into_iter().map(Call::new).collect()
+}
+
+/// Every refusal and every two at once, each with enough words for the answer and with too few.
+fn refusal_calls(random: &mut Random) -> Vec<Call> {
+    let mut calls = Vec::new();
+    for _ in 0..12 {
+        for case in runs::refusals(random) {
+            for answer_words in [random.pick(&[6, 8]), random.pick(&[0, 5])] {
+                let case = case.clone();
+                calls.push(Call { case, answer_words });
+            }
+        }
+    }
+    calls
+}
+
+/// What the document says of a call; a refusal is 100 more than its number.
+#[derive(Clone, Copy, Debug)]
+enum Said {
+    /// The number, and the first words of the answer.
+    Answers(u32, &'static [u64]),
+    Refused(u32),
+    /// Taken: E, D, R or U.
+    Taken,
+    /// Taken, and R at step 0 or certainly not.
+    FullAtStart(bool),
+}
+
+impl Said {
+    fn holds(self, outcome: &Outcome) -> bool {
+        let number = outcome.number;
+        let answer = outcome.words("answer");
+        let is_full = number == 2 && answer[0] == 0;
+        match self {
+            Said::Answers(said, words) => number == said && answer.starts_with(words),
+            Said::Refused(said) => number == 100 + said,
+            Said::Taken => number <= 3,
+            Said::FullAtStart(said) => number <= 3 && is_full == said,
+        }
+    }
+}
+
+type Named = (&'static str, JudgeCase, Said);
+
+/// The bench sheet, and what the document names under "Run and compared".
+fn named() -> Vec<Named> {
+    let mut named = bench_sheet();
+    named.extend(at_the_limits());
+    let mut random = Random::new(4);
+    for _ in 0..12 {
+        let tight = runs::twelve_bits(&mut random, 128);
+        named.push(("n = 12, u, T = 128", tight, Said::FullAtStart(true)));
+        let roomy = runs::twelve_bits(&mut random, 169);
+        named.push(("n = 12, u, T = 169", roomy, Said::FullAtStart(false)));
+    }
+    named
+}
+
+/// P1 to P11.
+#[rustfmt::skip]
+fn bench_sheet() -> Vec<Named> {
+    let judged = |made: &Made, kind, order: &[u32]| JudgeCase::new(made, kind, 128, order.to_vec());
+    let and = |outputs: &[u32], kind, order: &[u32]| judged(&and_netlist(outputs), kind, order);
+    let example = Made::new(2, &[7, 0], &[(5, 3)]);
+    let falling = orders::falling(two_bits().counts);
+    vec![
+        ("P1", and(&[6, 0], 0, &[3]), Said::Answers(0, &[1, 0])),
+        ("P2", and(&[6, 0], 1, &[3]), Said::Answers(0, &[1, 0])),
+        ("P3", and(&[6, 6], 0, &[3]), Said::Answers(1, &[1, 1, 1, 1, 3, 1])),
+        ("P4", and(&[6, 6], 1, &[3]), Said::Answers(1, &[1, 1, 1, 1, 3, 1])),
+        ("P5", and(&[7, 0], 0, &[3]), Said::Answers(1, &[1, 2, 0, 0, 1, 0])),
+        ("P6", and(&[6, 0], 0, &[]), Said::Answers(3, &[0, 2])),
+        ("P7", and(&[6, 0], 0, &[3, 3]), Said::Answers(0, &[2, 0])),
+        ("P8", and(&[6], 2, &[3]), Said::Answers(0, &[1, 0])),
+        ("P9", judged(&example, 0, &[3]), Said::Answers(1, &[1, 3, 1, 0, 1, 0])),
+        ("P10", judged(&two_bits(), 0, &falling), Said::Answers(0, &[10, 0])),
+        ("P10 at the start", judged(&two_bits(), 0, &[]), Said::Answers(3, &[0, 8])),
+        ("P11", judged(&two_bits(), 1, &falling), Said::Answers(1, &[10, 2, 2, 1, 2, 14])),
+    ]
+}
+
+/// Just inside and just outside the limits; what is outside breaks nothing else.
+fn at_the_limits() -> Vec<Named> {
+    let and = and_netlist(&[6, 0]);
+    let steps = |count| JudgeCase::new(&and, 0, 128, vec![3; count]);
+    let limit = |limit| JudgeCase::new(&and, 0, limit, vec![3]);
+    let mut random = Random::new(5);
+    let mut sized = |kind, inputs, outputs, gates| {
+        let made = random_sound(&mut random, inputs, outputs, gates);
+        JudgeCase::new(&made, kind, 128, vec![])
+    };
+    vec![
+        (
+            "P1 under t",
+            JudgeCase::new(&and, 2, 128, vec![3]),
+            Said::Refused(9),
+        ),
+        ("T 127", limit(127), Said::Refused(10)),
+        ("T 128", limit(128), Said::Answers(0, &[1, 0])),
+        ("4,097 steps", steps(4_097), Said::Refused(11)),
+        ("4,096 steps", steps(4_096), Said::Answers(0, &[4_096, 0])),
+        ("M 1,024", sized(0, 2, 2, 1_022), Said::Refused(2)),
+        ("M 1,023", sized(0, 2, 2, 1_021), Said::Taken),
+        ("I 66", sized(2, 66, 33, 1), Said::Refused(2)),
+        ("I 0", sized(2, 0, 1, 1), Said::Refused(2)),
+        ("I 64", sized(0, 64, 64, 1), Said::FullAtStart(true)),
+        ("I 64, M 1,023", sized(2, 64, 32, 959), Said::Taken),
+    ]
+}
+
+#[test]
+fn judging_gives_the_same_numbers_and_words() {
+    assert!(CALLS.len() >= 5_000);
+    println!("{} cases of judging", CALLS.len());
+    let document = Mirror::of_document();
+    let difference = first_difference(&CALLS, Call::by_library, |call| call.by(&document));
+    assert!(difference.is_none(), "{}", difference.unwrap());
+}
+
+#[test]
+fn the_cases_that_the_document_names_are_answered_as_it_says() {
+    for (name, case, said) in named() {
+        let call = Call::new(case);
+        let outcome = call.by_library();
+        assert!(
+            said.holds(&outcome),
+            "{name}: {said:?}, not {}",
+            outcome.number
+        );
+        let expected = call.by(&Mirror::of_document());
+        assert!(outcome == expected, "{name}: other words");
+    }
+}
+
+#[test]
+fn the_cases_of_judging_meet_every_number() {
+    let document = Mirror::of_document();
+    let numbers = numbers_given(&CALLS, |call| call.by(&document));
+    let expected = [0, 1, 2, 3, 102, 103, 108, 109, 110, 111, 112];
+    assert_eq!(numbers, expected);
+}
+
+#[test]
+fn the_cases_of_judging_tell_every_mutant() {
+    let document = Mirror::of_document();
+    let mutants = Mirror::mutants_of("judge");
+    assert!(mutants.len() >= 5);
+    for (name, mutant) in &mutants {
+        let told = first_difference(&CALLS, |call| call.by(mutant), |call| call.by(&document));
+        assert!(told.is_some(), "{name}: no case of judging tells it");
+    }
+    println!("{} mutants of judging told", mutants.len());
+}

@@ -1,6 +1,6 @@
 -- The values of a netlist's variables: how many, that they are digits, the inputs' and the gates'.
 use mathlib.Core.Path.{_≡_, refl, sym, _∙_}
-use mathlib.Core.List.{List, [], _∷_, _++_}
+use mathlib.Core.List.{List, [], _∷_}
 use mathlib.Core.Logic.{⊎-elim}
 use Prim.Native.Nat.{ℕ, zero, suc, _+_, _-_, _*_, _<_, _≤_}
 use native.Mathlib.Nat.{eq-or-lt-of-le, zero-mul, one-mul}
@@ -11,21 +11,18 @@ use lib.Seq.{getD-at, getD-append-add}
 use Rattle.rules.specs.Each.{listed}
 use Rattle.rules.specs.Netlist.{variable, inverted, gate, rhs0, rhs1}
 use Rattle.rules.specs.Values.{width, bit, turned, literal-value, input-values, gate-value, values-to, values}
-use Rattle.rules.proofs.Indices.{length-listed, getD-listed}
 use Rattle.rules.specs.declared.counts.Counts.{Counts}
+use Rattle.rules.proofs.All.{all-append}
+use Rattle.rules.proofs.Bits.{digit-cases, bit-digit}
+use Rattle.rules.proofs.Indices.{length-listed, getD-listed}
 use Rattle.rules.proofs.Sound.{RightCounts, SoundTable}
 use Rattle.demands.proofs.Value.{Digits, digit-at}
 
--- digits behind digits
-pub digits-append : (us vs : List ℕ) → Digits us → Digits vs → Digits (us ++ vs)
-digits-append [] vs d e = e
-digits-append (x ∷ us) vs d e = (d .0, digits-append us vs (d .1) e)
-
 -- the bits of a number are digits
 digits-bits : (n x : ℕ) → Digits (listed n (bit x))
-unfolding listed bit
+unfolding listed
 digits-bits zero x = tt
-digits-bits (suc n) x = digits-append (listed n (bit x)) (bit x n ∷ []) (digits-bits n x) (omega arith, tt)
+digits-bits (suc n) x = all-append (λ (x : ℕ). x < 2) (listed n (bit x)) (bit x n ∷ []) (digits-bits n x) (bit-digit x n, tt)
 
 -- a digit or 1 less it is a digit
 turned-digit : (n x : ℕ) → x < 2 → turned n x < 2
@@ -39,10 +36,8 @@ unfolding literal-value
 literal-digit vs x d = turned-digit (inverted x) (getD vs (variable x) 0) (digit-at vs d (variable x))
 
 -- the product of two digits is a digit
-pub product-digit : (x y : ℕ) → x < 2 → y < 2 → x * y < 2
-product-digit zero y h k = rw zero-mul (omega arith)
-product-digit (suc zero) y h k = rw one-mul k
-product-digit (suc (suc x)) y h k = absurd (omega arith)
+product-digit : (x y : ℕ) → x < 2 → y < 2 → x * y < 2
+product-digit x y h k = digit-cases (λ x. x * y < 2) (rw zero-mul (omega arith)) (rw one-mul k) x h
 
 -- a literal has the same value in two lists that agree on its variable
 pub literal-same : (us vs : List ℕ) (x : ℕ) → getD us (variable x) 0 ≡ getD vs (variable x) 0 → literal-value us x ≡ literal-value vs x
@@ -51,14 +46,14 @@ literal-same us vs x e = rw e
 
 module _ (n a b : ℕ) where
   -- the inputs have 2n + 1 values, with the false one
-  length-inputs : length (input-values n a b) ≡ 2 * n + 1
+  pub length-inputs : length (input-values n a b) ≡ suc (n + n)
   unfolding input-values
   length-inputs = simp (length-append, length-listed) (omega arith)
 
   -- they are digits
   digits-inputs : Digits (input-values n a b)
   unfolding input-values
-  digits-inputs = digits-append (0 ∷ listed n (bit a)) (listed n (bit b)) (omega arith, digits-bits n a) (digits-bits n b)
+  digits-inputs = all-append (λ (x : ℕ). x < 2) (0 ∷ listed n (bit a)) (listed n (bit b)) (omega arith, digits-bits n a) (digits-bits n b)
 
   -- the first of them is 0
   input-false : getD (input-values n a b) 0 0 ≡ 0
@@ -93,7 +88,7 @@ module _ (c : Counts) (table : List ℕ) (a b : ℕ) where
   digits-values-to (suc k) =
       let before = values-to c table a b k in
       let digits = digits-values-to k in
-      digits-append before (gate-value c table before (gate c k) ∷ []) digits
+      all-append (λ (x : ℕ). x < 2) before (gate-value c table before (gate c k) ∷ []) digits
       (product-digit _ _ (literal-digit before (rhs0 c table (gate c k)) digits) (literal-digit before (rhs1 c table (gate c k)) digits), tt)
 
   -- the values of more gates leave those before

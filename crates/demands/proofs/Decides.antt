@@ -6,8 +6,8 @@ use Rattle.rules.specs.declared.answers.Answer.the-variants.{Equal, Differs, Ou
 use Rattle.demands.specs.Answers.{HonestDecides}
 use Rattle.demands.proofs.Finishes.{honest-finishes}
 use Rattle.demands.proofs.Right.{equal-right, differs-right}
-use Rattle.demands.proofs.Room.{verdict-answers, room-exact}
-use Rattle.demands.proofs.Verdicts.{judging-passed}
+use Rattle.demands.proofs.Room.{room-exact}
+use Rattle.demands.proofs.Verdicts.{judging-passed, verdict-answers}
 
 -- R and a refusal do not come where there is room, U does not come after an honest order, and E and D are right
 pub honest-decides : HonestDecides

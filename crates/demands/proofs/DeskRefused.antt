@@ -21,7 +21,7 @@ use Rattle.demands.specs.Netlists.{Written}
 use Rattle.demands.specs.Refusals.{First, Asked, DeskUnfit, long, kindless, unread, large, unjudged, line-of, DeskRefusedExact}
 use Rattle.demands.proofs.Readings.{Outcome, said, written-read, unread-refused}
 use Rattle.demands.proofs.Refused.{refused-exact}
-use Rattle.demands.proofs.Room.{verdict-answers}
+use Rattle.demands.proofs.Verdicts.{verdict-answers}
 
 -- what the desk hands to the judge, but for what its buffers hold
 handed : ℕ → Counts → List ℕ → Inputs

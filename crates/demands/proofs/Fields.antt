@@ -2,7 +2,7 @@
 use mathlib.Core.Path.{_≡_, refl, ap, sym, _∙_}
 use mathlib.Core.Bool.{Bool, true, false, cond, not}
 use mathlib.Core.List.{List, [], _∷_, _++_, append-assoc}
-use Prim.Native.Nat.{ℕ, zero, suc, _<_}
+use Prim.Native.Nat.{ℕ, suc, _<_}
 use native.Mathlib.Omega.{arith}
 use lib.ListN.{length, getD, drop}
 use lib.Seq.{drop-append-seam}
@@ -10,6 +10,7 @@ use borrow.Author.Tests.{not-true}
 use Rattle.rules.specs.Each.{every}
 use Rattle.rules.specs.Text.{decimal, fields-text}
 use Rattle.rules.specs.Reading.{found, missing, digit, leading-digits, value-from, well-written, behind, with-numbers, field, fields}
+use Rattle.rules.proofs.All.{All, all-at}
 use Rattle.rules.proofs.Indices.{both}
 use Rattle.demands.proofs.Digits.{well-number, decimal-digits, decimal-value, decimal-well, leading-every, leading-front, leading-number}
 use Rattle.demands.proofs.Scans.{never, with-back, then-back, then-forth, behind-back, behind-forth}
@@ -53,14 +54,11 @@ marked j (end ∷ ends) numbers = (getD numbers j 0, end) ∷ marked (suc j) end
 
 -- every number is below 10,000
 abbrev pub Small : List ℕ → Type 0
-Small [] = Unit {0}
-Small (x ∷ numbers) = (x < 10000) × Small numbers
+Small = All (λ (x : ℕ). x < 10000)
 
 -- also the one at a position
 pub small-at : (numbers : List ℕ) (j : ℕ) → Small numbers → getD numbers j 0 < 10000
-small-at [] j h = omega arith
-small-at (x ∷ numbers) zero h = h .0
-small-at (x ∷ numbers) (suc j) h = small-at numbers j (h .1)
+small-at numbers j h = all-at (λ (x : ℕ). x < 10000) numbers 0 (omega arith) h j
 
 -- one number more in front
 marked-cons : (j : ℕ) (ends : List ℕ) (x : ℕ) (numbers : List ℕ) → marked (suc j) ends (x ∷ numbers) ≡ marked j ends numbers

@@ -14,8 +14,9 @@ use borrow.Author.Tests.{leb-true, leb-false}
 use Rattle.rules.specs.Each.{listed}
 use Rattle.rules.specs.Values.{bit}
 use Rattle.rules.proofs.Indices.{length-listed}
+use Rattle.rules.proofs.Bits.{digit-cases, bit-first, bit-next}
 use Rattle.demands.specs.Polynomials.{chosen, set-value}
-use Rattle.demands.proofs.Value.{bit-first, bit-next, set-value-none}
+use Rattle.demands.proofs.Value.{set-value-none}
 
 -- the values are the digits of u, lowest first
 abbrev pub Follows : List ℕ → ℕ → Type 0
@@ -53,9 +54,7 @@ set-value-front (x ∷ values) more t h =
 -- a digit to itself is 1
 chosen-own : (d : ℕ) → d < 2 → chosen d d ≡ 1
 unfolding chosen
-chosen-own zero h = refl
-chosen-own (suc zero) h = refl
-chosen-own (suc (suc d)) h = absurd (omega arith)
+chosen-own = digit-cases (λ d. chosen d d ≡ 1) refl refl
 
 -- at its own digits a set has the value 1
 pub set-value-own : (values : List ℕ) (u : ℕ) → Follows values u → set-value values u ≡ 1

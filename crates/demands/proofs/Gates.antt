@@ -9,13 +9,13 @@ use lib.ListN.{getD}
 use lib.Seq.{ext-getD}
 use borrow.Author.Tests.{ltb-true, ltb-false, not-false}
 use Rattle.rules.specs.Netlist.{gate, rhs0, rhs1, counts-wrong, table-unsound}
-use Rattle.rules.specs.Says.{answers, first, refuse-or}
+use Rattle.rules.specs.Says.{answers, first}
 use Rattle.rules.specs.Values.{width, values, shown, evaluate-checks, evaluating}
 use Rattle.rules.specs.declared.counts.Counts.{Counts}
-use Rattle.demands.specs.Netlists.{Assignment, ValuesAreTheGates}
 use Rattle.rules.proofs.Sound.{RightCounts, SoundTable, right-counts, sound-table}
+use Rattle.demands.specs.Netlists.{Assignment, ValuesAreTheGates}
 use Rattle.demands.proofs.Assigned.{literal-same, values-false, values-first, values-second, values-length, values-gate}
-use Rattle.demands.proofs.Passed.{none-holds}
+use Rattle.demands.proofs.Passed.{answered, none-holds}
 
 module _ (c : Counts) (table : List ℕ) (a b : ℕ) (right : RightCounts c) (sound : SoundTable c table) where
   -- the values are an assignment of the gates
@@ -77,13 +77,11 @@ module _ (c : Counts) (table : List ℕ) (a b : ℕ) (right : RightCounts c) (so
 -- a word that is said is the word shown, and nothing is refused
 word-said : (c : Counts) (table : List ℕ) (a b word : ℕ) → answers 0 (word ∷ []) ≡ evaluating c table a b
     → (first (evaluate-checks c table) ≡ 0) × (word ≡ shown c table a b)
-unfolding evaluating refuse-or
-word-said c table a b word h = go (first (evaluate-checks c table)) refl h
-  where
-    go : (k : ℕ) → first (evaluate-checks c table) ≡ k → answers 0 (word ∷ []) ≡ refuse-or k (answers 0 (shown c table a b ∷ []))
-        → (first (evaluate-checks c table) ≡ 0) × (word ≡ shown c table a b)
-    go zero e h = (e, cc)
-    go (suc k) e h = let z : _≡_ {A = ℕ} 0 1 = cc in absurd (omega arith)
+unfolding evaluating
+word-said c table a b word h =
+    let told = answered (first (evaluate-checks c table)) (answers 0 (shown c table a b ∷ [])) 0 (word ∷ []) h in
+    let same = told .1 in
+    (told .0, cc)
 
 -- the word that the evaluator gives is shown by the one assignment of the gates
 pub values-are-the-gates : ValuesAreTheGates

@@ -15,8 +15,8 @@ use Rattle.rules.specs.Steps.{times-named, honest}
 use Rattle.rules.specs.Desk.{falling}
 use Rattle.rules.specs.declared.counts.Counts.{Counts}
 use Rattle.rules.proofs.Indices.{both, and-both, below-suc, each-at, each-all, length-listed, getD-listed}
-use Rattle.demands.specs.Answers.{ReverseHonest}
 use Rattle.rules.proofs.Sound.{right-counts, sound-table}
+use Rattle.demands.specs.Answers.{ReverseHonest}
 
 -- every gate of an order stands before those that it reads
 abbrev pub Falls : Counts → List ℕ → List ℕ → Type 0

@@ -1,28 +1,6 @@
 -- The proofs of the demands.
-pub mod Value
-pub mod Assigned
-pub mod StepKeeps
-pub mod StepShape
-pub mod Remainders
-pub mod Weighed
-pub mod Operands
-pub mod Published
-pub mod StartValue
-pub mod Passed
-pub mod Verdicts
-pub mod AllSets
-pub mod EvenSets
-pub mod Follows
-pub mod Soonest
-pub mod Pairs
-pub mod Right
-pub mod Honest
-pub mod Absent
-pub mod Occurs
-pub mod TermLimit
-pub mod Room
-pub mod Finishes
-pub mod Decides
+
+-- texts: what is read is what is written
 pub mod Digits
 pub mod Scans
 pub mod Fields
@@ -31,8 +9,35 @@ pub mod NetlistLines
 pub mod Tables
 pub mod Readings
 pub mod TextExact
+-- polynomials and their values
+pub mod Value
+pub mod Follows
+-- the values of a netlist's variables
+pub mod Assigned
+pub mod Gates
+-- the start polynomial, and what the steps keep
+pub mod Times
+pub mod Operands
+pub mod Published
+pub mod StartValue
+pub mod StepKeeps
+pub mod StepShape
+pub mod Absent
+pub mod Occurs
+-- answers
+pub mod Passed
+pub mod TermLimit
+pub mod Verdicts
+pub mod Soonest
+pub mod Pairs
+pub mod Right
+pub mod Room
+pub mod Honest
+pub mod Finishes
+pub mod Decides
+-- refusals
 pub mod ReadRefused
 pub mod Refused
 pub mod DeskRefused
-pub mod Gates
+-- stand-ins that are shut out
 pub mod StandIns

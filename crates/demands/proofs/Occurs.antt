@@ -1,44 +1,25 @@
 -- A polynomial has input variables only exactly when no gate variable occurs in it.
-use mathlib.Core.Path.{_≡_, refl, sym, _∙_}
+use mathlib.Core.Path.{_≡_, refl}
 use mathlib.Core.Bool.{Bool, true, false, _&&_, true≢false}
 use mathlib.Core.List.{[], _∷_}
-use mathlib.Core.Logic.{⊎-elim}
-use Prim.Native.Nat.{ℕ, zero, suc, _+_, _/_, _^_, _<_, _≤_}
-use native.Mathlib.Nat.{pow-succ'}
+use Prim.Native.Nat.{ℕ, suc, _+_, _^_, _<_, _≤_}
 use native.Mathlib.Omega.{arith}
 use lib.Dec.{ltb}
 use lib.ListN.{getD}
-use lib.Pow.{pow-mono, pow-pos}
+use lib.Pow.{pow-mono}
 use borrow.Author.Tests.{ltb-true, ltb-false}
 use Rattle.rules.specs.Each.{every}
-use Rattle.rules.specs.Values.{bit}
-use Rattle.rules.specs.Polynomial.{Polynomial, Under}
+use Rattle.rules.specs.Polynomial.{Polynomial}
 use Rattle.rules.specs.Judging.{inputs-only}
 use Rattle.rules.specs.declared.counts.Counts.{Counts}
 use Rattle.rules.proofs.Indices.{every-at}
+use Rattle.rules.proofs.AllSets.{AllSets}
+use Rattle.rules.proofs.Bits.{bit-out, high-variable}
 use Rattle.demands.specs.Answers.{GateOccurs}
-use Rattle.demands.proofs.Value.{bit-cases, bit-first, bit-next, bit-out}
-
--- a set that lacks its top variable is below it
-below-top : (n s : ℕ) → s < 2 ^ suc n → bit s n ≡ 0 → s < 2 ^ n
-below-top zero s h e = omega (arith, sym (bit-first s) ∙ e)
-below-top (suc n) s h e =
-    let half : s / 2 < 2 ^ n = below-top n (s / 2) (omega (arith, pow-succ' 2 (suc n))) (sym (bit-next s n) ∙ e) in
-    omega (arith, pow-succ' 2 n)
-
--- a set at or above the power of k has a variable from k up
-high-variable : (k n s : ℕ) → s < 2 ^ n → 2 ^ k ≤ s → (v : ℕ) × (k ≤ v) × (v < n) × (bit s v ≡ 1)
-high-variable k zero s h l = absurd (omega (arith, pow-pos k))
-high-variable k (suc n) s h l = ⊎-elim
-    (λ (e : bit s n ≡ 0). let v = high-variable k n s (below-top n s h e) l in (v .0, v .1, omega (arith, v .2), v .3))
-    (λ (e : bit s n ≡ 1). (n, omega (arith, top), omega arith, e))
-    (bit-cases s n)
-  where
-    top : suc n ≤ k → ⊥
-    top a = omega (arith, pow-mono {i = suc n} {j = k} a)
+use Rattle.demands.proofs.StepShape.{UpTo}
 
 -- a set that is no set of inputs has a gate variable
-pub gate-occurs : (c : Counts) (p : Polynomial) → Under (2 ^ (c .m + 1)) p → inputs-only c p ≡ false → GateOccurs c p
+pub gate-occurs : (c : Counts) (p : Polynomial) → AllSets (UpTo c) p → inputs-only c p ≡ false → GateOccurs c p
 unfolding inputs-only every
 gate-occurs c [] under h = absurd (true≢false h)
 gate-occurs c (t ∷ p) under h = go (ltb (t .1) (2 ^ (c .i + 1))) refl h (gate-occurs c p (under .1))

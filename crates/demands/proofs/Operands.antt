@@ -16,9 +16,10 @@ use Rattle.rules.specs.Values.{width}
 use Rattle.rules.specs.declared.counts.Counts.{Counts}
 use Rattle.rules.specs.Steps.{modulus, below-zero, product-term, start-terms}
 use Rattle.rules.proofs.Indices.{sum-same}
+use Rattle.rules.proofs.Remainders.{same-add, same-mul, modulo-cond, modulo-mul, modulo-turned, sum-mod, sum-factor}
+use Rattle.rules.proofs.Weighed.{weighed, weighed-append, weighed-joined, weighed-one}
 use Rattle.demands.specs.Polynomials.{minus, plain-operand, signed-operand, plain-outputs}
-use Rattle.demands.proofs.Remainders.{same-add, same-mul, modulo-cond, modulo-mul, modulo-turned, sum-mod, sum-factor}
-use Rattle.demands.proofs.Weighed.{weighed, weighed-append, weighed-joined, weighed-one, weighed-minus}
+use Rattle.demands.proofs.Times.{weighed-minus}
 
 -- bit i is the top bit in two's complement, which weighs -2^i
 unfoldable pub top-bit : Kind → ℕ → ℕ → Bool

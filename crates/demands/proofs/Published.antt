@@ -13,10 +13,11 @@ use Rattle.rules.specs.Polynomial.{Polynomial, hit, with-variable, times-variab
 use Rattle.rules.specs.Steps.{modulus, start-terms, start}
 use Rattle.rules.proofs.Indices.{sum-same}
 use Rattle.rules.proofs.Gathered.{gather-same}
-use Rattle.demands.specs.Polynomials.{times, minus, plain-operand, signed-operand, plain-outputs, specification, Published}
 use Rattle.rules.proofs.Sound.{right-counts}
-use Rattle.demands.proofs.Remainders.{same-add, same-mul, opposite, same-cancel, sum-mod, sum-factor}
-use Rattle.demands.proofs.Weighed.{weighed, weighed-coefficient, weighed-append, weighed-joined, weighed-one, weighed-times, weighed-minus}
+use Rattle.rules.proofs.Remainders.{same-add, same-mul, opposite, same-cancel, sum-mod, sum-factor}
+use Rattle.rules.proofs.Weighed.{weighed, weighed-coefficient, weighed-append, weighed-joined, weighed-one}
+use Rattle.demands.specs.Polynomials.{times, minus, plain-operand, signed-operand, plain-outputs, specification, Published}
+use Rattle.demands.proofs.Times.{weighed-times, weighed-minus}
 use Rattle.demands.proofs.Operands.{operand-sum, product-sum, modulus-positive, plain-sum, truncated-sum, weighed-plain-operand, weighed-signed-operand, weighed-start}
 
 -- the product of two operands weighed

@@ -5,7 +5,8 @@ use lib.ListN.{length}
 use Rattle.rules.specs.Says.{refuses}
 use Rattle.rules.specs.Reading.{Netlist, netlist, refused, reading, reading-says, table-after}
 use Rattle.demands.specs.Refusals.{ReadRefusedExact, ReadRefusalKeeps}
-use Rattle.demands.proofs.Readings.{apart, said, unread-refused}
+use Rattle.demands.proofs.Passed.{apart}
+use Rattle.demands.proofs.Readings.{said, unread-refused}
 
 -- what is answered with a refusal was refused
 refused-with : (n : Netlist) (k : ℕ) → reading-says n ≡ refuses k → n ≡ refused k

@@ -3,12 +3,11 @@ use mathlib.Core.Path.{_≡_, refl, ap, sym, _∙_}
 use mathlib.Core.Bool.{Bool, true, false, cond}
 use mathlib.Core.List.{List, [], _∷_, _++_, append-assoc, append-nil}
 use Prim.Native.Nat.{ℕ}
-use native.Mathlib.Omega.{arith}
 use lib.ListN.{length, drop}
 use lib.Seq.{drop-append-seam}
 use Rattle.rules.specs.Each.{joined}
 use Rattle.rules.specs.Netlist.{needed, counts-wrong, table-short, table-sound}
-use Rattle.rules.specs.Says.{refuses, answers, first}
+use Rattle.rules.specs.Says.{first}
 use Rattle.rules.specs.Text.{header-text, input-text, output-text, text-of}
 use Rattle.rules.specs.Reading.{Scan, found, missing, header-line, input-line, output-line, gate-line, lines, Netlist, netlist, refused, end-read, gates-read, outputs-read, inputs-read, counts-read, counts-of, header-read, reading}
 use Rattle.rules.specs.declared.counts.Counts.{Counts}
@@ -154,10 +153,6 @@ module _ (lent : ℕ) (text : List ℕ) where
   pub said : Outcome lent text (reading lent text)
   unfolding reading
   said = header-said (header-line text) refl
-
--- an answer is no refusal
-pub apart : {A : Type 0} (number k : ℕ) (given : List ℕ) → answers number given ≡ refuses k → A
-apart number k given e = let z : _≡_ {A = ℕ} 0 1 = cc in absurd (omega arith)
 
 -- what finds nothing is missing
 nothing-found : (s : Scan) → ((numbers text : List ℕ) → s ≡ found numbers text → ⊥) → s ≡ missing

@@ -8,14 +8,14 @@ use native.Mathlib.Omega.{arith}
 use Rattle.rules.specs.Says.{Says, refuses, answers, first, refuse-or}
 use Rattle.rules.specs.Values.{evaluate-checks, evaluating, shown}
 use Rattle.rules.specs.Judging.{kept-or, judge-checks, checks, refusal, judging, store-after, scratch-after, gates-after, terms-after}
+use Rattle.rules.proofs.All.{All}
 use Rattle.demands.specs.Refusals.{First, EvaluateRefusedExact, JudgeRefusedExact, JudgeRefusalKeeps}
-use Rattle.demands.proofs.Room.{verdict-answers}
-use Rattle.demands.proofs.Verdicts.{verdict-on, judging-passed}
+use Rattle.demands.proofs.Passed.{apart}
+use Rattle.demands.proofs.Verdicts.{verdict-on, judging-passed, verdict-answers}
 
 -- every check has a number above 0
 abbrev pub Numbered : List (ℕ × Bool) → Type 0
-Numbered [] = Unit
-Numbered (check ∷ later) = (0 < check .0) × Numbered later
+Numbered = All (λ (check : ℕ × Bool). 0 < check .0)
 
 -- the number found is that of the first condition that holds
 first-holds : (list : List (ℕ × Bool)) (k : ℕ) → first list ≡ suc k → First list (suc k)
@@ -54,15 +54,11 @@ refused-exact list later n none k = (forth, back)
         go zero l = absurd (omega arith)
         go (suc j) l = refl
 
--- an answer is no refusal
-answer-only : (j i : ℕ) (numbers : List ℕ) → answers j numbers ≡ refuses i → ⊥
-answer-only j i numbers h = let z : _≡_ {A = ℕ} 0 1 = cc in omega arith
-
 -- the evaluator refuses with the first condition that holds
 pub evaluate-refused-exact : EvaluateRefusedExact
 unfolding evaluating evaluate-checks
 evaluate-refused-exact c table a b r e k =
-    let exact = refused-exact (evaluate-checks c table) (answers 0 (shown c table a b ∷ [])) (omega arith) (λ i h. answer-only 0 i _ h) k in
+    let exact = refused-exact (evaluate-checks c table) (answers 0 (shown c table a b ∷ [])) (omega arith) (λ i h. apart 0 i _ h) k in
     ((λ h. exact .0 (sym (e .said) ∙ h)), (λ f. e .said ∙ exact .1 f))
 
 -- so does the judge

@@ -19,16 +19,18 @@ use Rattle.rules.specs.Judging.{Inputs, inputs-only, soonest}
 use Rattle.rules.specs.declared.counts.Counts.{Counts}
 use Rattle.rules.proofs.Indices.{both}
 use Rattle.rules.proofs.Gathered.{coefficient-lt}
-use Rattle.demands.specs.Polynomials.{value}
-use Rattle.demands.specs.Answers.{bits, got, wanted, following, Before, Least, EqualRight, DiffersRight}
 use Rattle.rules.proofs.Sound.{RightCounts, right-counts, sound-table}
-use Rattle.demands.proofs.StepShape.{Shape, modulus-above, run-shape, run-value}
-use Rattle.demands.proofs.Remainders.{same-cancel}
+use Rattle.rules.proofs.Remainders.{same-cancel}
+use Rattle.rules.proofs.All.{all-map}
+use Rattle.rules.proofs.AllSets.{AllSets}
+use Rattle.demands.specs.Polynomials.{value}
+use Rattle.demands.specs.Answers.{bits, got, wanted, Before, Least, EqualRight, DiffersRight}
+use Rattle.demands.proofs.StepShape.{Shape, run-shape, run-value}
+use Rattle.demands.proofs.Operands.{modulus-positive}
 use Rattle.demands.proofs.StartValue.{start-value}
 use Rattle.demands.proofs.Passed.{Passed, passed}
-use Rattle.demands.proofs.Verdicts.{answer-passed, answer-ended, said-equal, Differing, said-differs}
-use Rattle.demands.proofs.AllSets.{AllSets, all-map}
-use Rattle.demands.proofs.EvenSets.{Even, run-even}
+use Rattle.demands.proofs.Verdicts.{last, Differing, answer-means}
+use Rattle.demands.proofs.Absent.{Lacks, false-absent}
 use Rattle.demands.proofs.Soonest.{NotAfter, Earlier, earlier-first, soonest-holds, soonest-first}
 use Rattle.demands.proofs.Pairs.{pair-set, pair-earlier, PairOf, pair-of, pair-value, coefficient-positive, coefficient-none}
 
@@ -52,11 +54,7 @@ inputs-below c (t ∷ p) right h =
     let all : c .i + 1 ≡ suc (width c + width c) = omega (arith, right .operands) in
     (rw all at (ltb-true (t .1) (2 ^ (c .i + 1)) (parts .0)), inputs-below c p right (parts .1))
 
--- the last polynomial of the run
-abbrev last : Inputs → Polynomial
-last x = following x (length (x .order))
-
--- its value at an operand pair
+-- the value of the last polynomial at an operand pair
 abbrev last-at : Inputs → ℕ → ℕ → ℕ
 last-at x a b = value (values (x .counts) (x .table) a b) (last x)
 
@@ -117,7 +115,7 @@ module _ (x : Inputs) (ok : Passed x) where
     soon-pair : PairOf (bits x) soon
     soon-pair =
         pair-of (bits x) soon
-        (soonest-all Even (rw parts at (run-even (kind-of (x .kind)) (x .counts) (x .table) (x .order) (ok .gates) (length (x .order)))))
+        (soonest-all (Lacks 0) (rw parts at (false-absent (kind-of (x .kind)) (x .counts) (x .table) (x .order) (length (x .order)) (omega arith))))
         (soonest-all (λ s. s < 2 ^ suc (bits x + bits x)) set-below)
 
     -- at a pair whose set comes after none, the value is the coefficient there
@@ -131,7 +129,7 @@ module _ (x : Inputs) (ok : Passed x) where
       goes-wrong =
           let there = value-there a b h k (rw own (soonest-first (t .1) p)) in
           let some = soonest-all (λ s. 0 < coefficient-at (t ∷ p) s) (coefficient-positive (all-words x) (t ∷ p) (shape .coefficients)) in
-          let below = coefficient-lt (all-words x) _ (t ∷ p) soon (modulus-above (kind-of (x .kind)) (x .counts)) (shape .falling) (shape .coefficients) in
+          let below = coefficient-lt (all-words x) _ (t ∷ p) soon (modulus-positive (kind-of (x .kind)) (x .counts)) (shape .falling) (shape .coefficients) in
           words-differ a b h k (rw (there, own) some) (rw (there, own) below)
 
       -- and each pair before it is right
@@ -140,23 +138,20 @@ module _ (x : Inputs) (ok : Passed x) where
           let u = pair-set (bits x) d e in
           let earlier : Earlier u soon = rw own at (pair-earlier (bits x) d e a b i h before) in
           let all = soonest-first (t .1) p in
-          let none = coefficient-none u (t ∷ p) (all-map (t ∷ p) (λ s n. earlier-first u soon s earlier n .1) all) in
-          words-equal d e i j (value-there d e i j (all-map (t ∷ p) (λ s n. earlier-first u soon s earlier n .0) all) ∙ none)
+          let none = coefficient-none u (t ∷ p) (all-map (t ∷ p) (λ s n. earlier-first u soon (s .1) earlier n .1) all) in
+          words-equal d e i j (value-there d e i j (all-map (t ∷ p) (λ s n. earlier-first u soon (s .1) earlier n .0) all) ∙ none)
 
 -- "equal" only if the outputs are the product for every operand pair
 pub equal-right : EqualRight
 unfolding says value
 equal-right x steps terms answered a b h k =
-    let said = answered .judged .said in
-    let none = said-equal (kind-of (x .kind)) (x .counts) (x .table) (length (x .order)) _ (last x) (answer-ended x _ _ (λ e. omega arith) said) in
-    words-equal x (passed x (answer-passed x _ _ said)) a b h k (rw none)
+    let means = answer-means x 0 (steps ∷ terms ∷ []) (answered .judged .said) in
+    words-equal x (passed x (means .0)) a b h k (rw (means .1))
 
 -- the pair that D names is the first that goes wrong
-differing-least : (x : Inputs) → Passed x → (a b g w : ℕ) → Differing (kind-of (x .kind)) (x .counts) (x .table) (last x) a b g w
-    → Least x a b g w
+differing-least : (x : Inputs) → Passed x → (a b g w : ℕ) → Differing x a b g w → Least x a b g w
 differing-least x ok a b g w d =
-    let inputs : inputs-only (x .counts) (d .head ∷ d .tail) ≡ true = rw (d .parts) at (d .inputs) in
-    let pair = soon-pair x ok (d .head) (d .tail) (d .parts) inputs in
+    let pair = soon-pair x ok (d .head) (d .tail) (d .parts) (d .inputs) in
     let first : a < 2 ^ bits x = rw (d .first) (pair .first) in
     let second : b < 2 ^ bits x = rw (d .second) (pair .second) in
     let own : pair-set (bits x) a b ≡ soonest (d .head .1) (d .tail) = rw (d .first, d .second) (pair .set) in
@@ -165,14 +160,13 @@ differing-least x ok a b g w d =
       second = second;
       evaluated = d .shows;
       read = d .wants;
-      wrong = λ e. goes-wrong x ok (d .head) (d .tail) (d .parts) inputs a b first second own (sym (d .shows) ∙ e ∙ d .wants);
-      least = right-before x ok (d .head) (d .tail) (d .parts) inputs a b first second own;
+      wrong = λ e. goes-wrong x ok (d .head) (d .tail) (d .parts) (d .inputs) a b first second own (sym (d .shows) ∙ e ∙ d .wants);
+      least = right-before x ok (d .head) (d .tail) (d .parts) (d .inputs) a b first second own;
     }
 
 -- "differs" names, of all pairs that go wrong, the one with the fewest 1 bits and of those the smallest
 pub differs-right : DiffersRight
 unfolding says
 differs-right x steps terms a b g w answered =
-    let said = answered .judged .said in
-    differing-least x (passed x (answer-passed x _ _ said)) a b g w
-    (said-differs (kind-of (x .kind)) (x .counts) (x .table) (length (x .order)) steps terms a b g w (last x) (answer-ended x _ _ (λ e. omega arith) said))
+    let means = answer-means x 1 (steps ∷ terms ∷ a ∷ b ∷ g ∷ w ∷ []) (answered .judged .said) in
+    differing-least x (passed x (means .0)) a b g w (means .1)

@@ -11,7 +11,7 @@ use borrow.Author.Tests.{ltb-true, ltb-false, eqb-true, eq-eqb}
 use Rattle.rules.specs.Polynomial.{Polynomial}
 use Rattle.rules.specs.Judging.{sooner, soonest}
 use Rattle.rules.proofs.Indices.{both}
-use Rattle.demands.proofs.AllSets.{AllSets}
+use Rattle.rules.proofs.AllSets.{AllSets}
 
 -- the set s does not come after the set t: it has no more variables, and where as many is no greater number
 abbrev pub NotAfter : ℕ → ℕ → Type 0

@@ -2,6 +2,7 @@
 use mathlib.Core.Path.{_≡_, refl, ap, sym, _∙_}
 use mathlib.Core.Bool.{true, cond}
 use mathlib.Core.List.{List, [], _∷_}
+use mathlib.Core.Logic.{_⊎_, inl, inr}
 use Prim.Native.Nat.{ℕ, zero, suc, _+_, _-_, _*_, _/_, _%_, _^_, _<_, _≤_}
 use native.Mathlib.Nat.{add-comm, add-zero, mul-comm, mul-left-comm, mul-one, mod-mod, mod-eq-of-lt, mod-one, mod-lt, two-pow-succ, pow-le-pow-right, mul-zero, mul-le-mul-left, one-le-pow}
 use native.Mathlib.Numerals.{one-add}
@@ -17,19 +18,15 @@ use Rattle.rules.specs.Product.{Kind, plain, signed, truncated, operand, negati
 use Rattle.rules.specs.Polynomial.{times-literal}
 use Rattle.rules.specs.Steps.{modulus, start-terms, start}
 use Rattle.rules.specs.declared.counts.Counts.{Counts}
+use Rattle.rules.proofs.Bits.{bit-cases}
 use Rattle.rules.proofs.Indices.{sum-same}
-use Rattle.demands.specs.Polynomials.{set-value, value, plain-outputs, StartValue}
-use Rattle.demands.proofs.Value.{set-value-none, set-value-two, value-gather, value-times-literal}
 use Rattle.rules.proofs.Sound.{RightCounts, SoundTable, right-counts, sound-table}
+use Rattle.rules.proofs.Remainders.{same-add, same-cancel, opposite, without, modulo-cond, modulo-mul, sum-mod, sum-factor}
+use Rattle.rules.proofs.Weighed.{weighed, weighed-joined, weighed-one}
+use Rattle.demands.specs.Polynomials.{set-value, value, plain-outputs, StartValue}
+use Rattle.demands.proofs.Value.{weighed-value, set-value-none, set-value-two, value-gather, value-times-literal}
 use Rattle.demands.proofs.Assigned.{literal-digit, values-digits, values-false, values-first, values-second, values-length}
-use Rattle.demands.proofs.Remainders.{same-add, same-cancel, opposite, without, modulo-cond, modulo-mul, sum-mod, sum-factor}
-use Rattle.demands.proofs.Weighed.{weighed, weighed-value, weighed-joined, weighed-one}
 use Rattle.demands.proofs.Operands.{bit-weight, operand-sum, product-sum, modulus-positive, plain-sum, truncated-sum, signed-sum, weighed-start}
-
--- a bit is a digit
-bit-digit : (x i : ℕ) → bit x i < 2
-unfolding bit
-bit-digit x i = mod-lt (x / 2 ^ i) (omega arith)
 
 -- one bit more of a number's rest
 rest-suc : (n x : ℕ) → x % 2 ^ suc n ≡ x % 2 ^ n + 2 ^ n * bit x n
@@ -59,14 +56,13 @@ less-power m p r positive h =
     ∙ sym (modulo-cond m positive true (p - r))
 
 -- two's complement: a rest r below p and a top digit d that weighs minus p, as the sign and the size of the number
-top-digit : (m p r d : ℕ) → 0 < m → r < p → d < 2
+top-digit : (m p r d : ℕ) → 0 < m → r < p → (d ≡ 0) ⊎ (d ≡ 1)
     → (r + (m - 1) * p * d) % m ≡ modulo m (leb p (r + p * d)) (cond (leb p (r + p * d)) (p + p - (r + p * d)) (r + p * d))
 unfolding modulo
-top-digit m p r zero positive h k = rw (mul-zero, mul-zero, add-zero, lt-leb p r h)
-top-digit m p r (suc zero) positive h k =
+top-digit m p r d positive h (inl e) = rw (e, mul-zero, mul-zero, add-zero, lt-leb p r h)
+top-digit m p r d positive h (inr e) =
     let less : p + p - (r + p) ≡ p - r = omega arith in
-    rw (mul-one, mul-one, le-leb p (r + p) (omega arith), less) (less-power m p r positive (omega arith))
-top-digit m p r (suc (suc d)) positive h k = absurd (omega arith)
+    rw (e, mul-one, mul-one, le-leb p (r + p) (omega arith), less) (less-power m p r positive (omega arith))
 
 -- an operand's bits, each with its weight, are the operand as the reading reads it
 operand-value : (kind : Kind) (m n x : ℕ) → 0 < m → 0 < n → operand-sum kind m n (bit x) % m ≡ modulo m (negative kind n x) (size kind n x)
@@ -76,7 +72,7 @@ operand-value signed m zero x positive h = absurd (omega arith)
 operand-value signed m (suc k) x positive h =
     let less : suc k - 1 ≡ k = omega arith in
     rw (signed-sum m k (bit x), bits-sum k x, less, rest-suc k x, two-pow-succ k)
-    (top-digit m (2 ^ k) (x % 2 ^ k) (bit x k) positive (mod-lt x (one-le-pow k 2 (omega arith))) (bit-digit x k))
+    (top-digit m (2 ^ k) (x % 2 ^ k) (bit x k) positive (mod-lt x (one-le-pow k 2 (omega arith))) (bit-cases x k))
 operand-value truncated m n x positive h = rw (truncated-sum m n (bit x), bits-sum n x)
 
 module _ (kind : Kind) (m n : ℕ) where

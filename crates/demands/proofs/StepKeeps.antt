@@ -11,10 +11,12 @@ use Rattle.rules.specs.Values.{bit, literal-value, values}
 use Rattle.rules.specs.Polynomial.{Term, Polynomial, Coefficients, times-literal}
 use Rattle.rules.specs.Steps.{modulus, where-held, replaced, all-replaced, step}
 use Rattle.rules.specs.declared.counts.Counts.{Counts}
-use Rattle.demands.specs.Polynomials.{value, set-value, StepKeeps}
 use Rattle.rules.proofs.Sound.{RightCounts, right-counts, SoundTable, sound-table}
+use Rattle.rules.proofs.Bits.{bit-cases}
+use Rattle.rules.proofs.Remainders.{mul-mod-mod}
+use Rattle.demands.specs.Polynomials.{value, set-value, StepKeeps}
 use Rattle.demands.proofs.Assigned.{values-length, values-digits, values-false, values-gate}
-use Rattle.demands.proofs.Value.{Digits, Capped, capped, bit-cases, set-value-out, mul-mod-mod, value-append, value-gather, times-literal-capped, value-times-literal}
+use Rattle.demands.proofs.Value.{Digits, Capped, capped, set-value-out, value-append, value-gather, times-literal-capped, value-times-literal}
 
 -- values that are digits with false first, in which v is the product of the literals x and y
 pub record Gate (vs : List ℕ) (v x y : ℕ) : Type 0 where

@@ -17,6 +17,16 @@ abbrev pub HeldTerms : List Polynomial → ℕ → ℕ → Type 0
 HeldTerms list k terms = ((k ≡ 0) × (terms ≡ 0)) ⊎ ((j : ℕ) × (k ≡ j + 1) × (terms ≡ length (getD list j [])))
 
 module _ (limit : ℕ) where
+  -- at most all polynomials of a list have room
+  pub roomy-le : (list : List Polynomial) → roomy limit list ≤ length list
+  unfolding roomy
+  roomy-le [] = omega arith
+  roomy-le (p ∷ list) = go (ltb limit (length p)) (roomy-le list)
+    where
+      go : (t : Bool) → roomy limit list ≤ length list → cond t 0 (suc (roomy limit list)) ≤ suc (length list)
+      go true h = omega arith
+      go false h = omega arith
+
   -- the polynomials before the first that has no room have it
   pub room-before : (list : List Polynomial) (j : ℕ) → j < roomy limit list → length (getD list j []) ≤ limit
   unfolding roomy

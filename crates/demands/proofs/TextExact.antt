@@ -11,7 +11,8 @@ use Rattle.rules.specs.declared.answers.Text.{Text}
 use Rattle.rules.specs.declared.answers.Text.the-variants.{Read, Refused}
 use Rattle.rules.specs.declared.counts.Counts.{Counts}
 use Rattle.demands.specs.Netlists.{TextExact, Written}
-use Rattle.demands.proofs.Readings.{apart, said, written-read}
+use Rattle.demands.proofs.Passed.{apart}
+use Rattle.demands.proofs.Readings.{said, written-read}
 
 -- counts are the same where their five numbers are
 same-counts : (c d : Counts) → answers 0 (c .m ∷ c .i ∷ c .l ∷ c .o ∷ c .a ∷ []) ≡ answers 0 (d .m ∷ d .i ∷ d .l ∷ d .o ∷ d .a ∷ []) → c ≡ d

@@ -1,20 +1,23 @@
 -- What the judge says, taken apart: a refusal, R where a polynomial has more than T terms, and else E, D or U by the last one.
-use mathlib.Core.Path.{_≡_, refl, ap, _∙_}
+use mathlib.Core.Path.{_≡_, refl, _∙_}
 use mathlib.Core.Bool.{Bool, true, false, cond, true≢false}
 use mathlib.Core.List.{List, [], _∷_}
 use Prim.Native.Nat.{ℕ, zero, suc, _<_, _≤_}
 use native.Mathlib.Omega.{arith}
-use lib.Dec.{leb, ltb}
-use lib.ListN.{length}
+use lib.Dec.{leb}
+use lib.ListN.{length, getD}
 use borrow.Author.Tests.{le-leb, lt-leb, leb-true, leb-false}
 use Rattle.rules.specs.Each.{every}
-use Rattle.rules.specs.Says.{Says, answers, refuse-or}
+use Rattle.rules.specs.Says.{Says, refuses, answers, refuse-or}
 use Rattle.rules.specs.Values.{width, shown}
-use Rattle.rules.specs.Product.{Kind, kind-of, product}
+use Rattle.rules.specs.Product.{kind-of, product}
 use Rattle.rules.specs.Polynomial.{Term, Polynomial}
-use Rattle.rules.specs.Steps.{trail, run, after, step}
+use Rattle.rules.specs.Steps.{run, after}
 use Rattle.rules.specs.Judging.{Inputs, roomy, held, inputs-only, soonest, pair-a, pair-b, differs, ended, verdict, refusal, judging}
-use Rattle.rules.specs.declared.counts.Counts.{Counts}
+use Rattle.rules.proofs.Trails.{length-run}
+use Rattle.demands.specs.Answers.{following}
+use Rattle.demands.proofs.Passed.{answered}
+use Rattle.demands.proofs.TermLimit.{roomy-le}
 
 -- the verdict on what is handed in, once nothing is refused
 abbrev pub verdict-on : Inputs → Says
@@ -25,127 +28,102 @@ pub judging-passed : (x : Inputs) → refusal x ≡ 0 → judging x ≡ verdict-
 unfolding judging refuse-or
 judging-passed x h = rw h
 
--- an answer says that nothing is refused
-pub answer-passed : (x : Inputs) (k : ℕ) (numbers : List ℕ) → answers k numbers ≡ judging x → refusal x ≡ 0
-unfolding judging refuse-or
-answer-passed x k numbers h = go (refusal x) refl h
-  where
-    go : (n : ℕ) → refusal x ≡ n → answers k numbers ≡ refuse-or n (verdict-on x) → refusal x ≡ 0
-    go zero e h = e
-    go (suc n) e h = let z : _≡_ {A = ℕ} 0 1 = cc in absurd (omega arith)
+-- the polynomials after 0, 1, 2, .. steps
+abbrev pub polynomials-on : Inputs → List Polynomial
+polynomials-on x = run (kind-of (x .kind)) (x .counts) (x .table) (x .order)
 
--- an answer is the verdict
-pub answer-verdict : (x : Inputs) (k : ℕ) (numbers : List ℕ) → answers k numbers ≡ judging x → answers k numbers ≡ verdict-on x
-answer-verdict x k numbers h = h ∙ judging-passed x (answer-passed x k numbers h)
+-- the last one
+abbrev pub last : Inputs → Polynomial
+last x = following x (length (x .order))
 
--- a run has one polynomial more than it has steps
-pub length-trail : (m : ℕ) (c : Counts) (table : List ℕ) (p : Polynomial) (order : List ℕ) → length (trail m c table p order) ≡ suc (length order)
-unfolding trail
-length-trail m c table p [] = refl
-length-trail m c table p (v ∷ order) = ap suc (length-trail m c table (step m c table v p) order)
-
-pub length-run : (kind : Kind) (c : Counts) (table order : List ℕ) → length (run kind c table order) ≡ suc (length order)
-unfolding run
-length-run kind c table order = length-trail _ c table _ order
-
--- at most all polynomials of a list have room
-pub roomy-le : (limit : ℕ) (list : List Polynomial) → roomy limit list ≤ length list
-unfolding roomy
-roomy-le limit [] = omega arith
-roomy-le limit (p ∷ list) = go (ltb limit (length p)) (roomy-le limit list)
-  where
-    go : (t : Bool) → roomy limit list ≤ length list → cond t 0 (suc (roomy limit list)) ≤ suc (length list)
-    go true h = omega arith
-    go false h = omega arith
-
-module _ (kind : Kind) (c : Counts) (table : List ℕ) (limit : ℕ) (order : List ℕ) where
-  -- how many polynomials of the run have room before one has not
-  abbrev pub room : ℕ
-  room = roomy limit (run kind c table order)
-
-  -- one of them has not: R
-  pub verdict-room : room ≤ length order
-      → verdict kind c table limit order ≡ answers 2 (room ∷ length (held limit (run kind c table order)) ∷ [])
-  unfolding verdict
-  verdict-room h = rw (le-leb room (length order) h)
-
-  -- all have: the last one is held
-  pub held-last : length order < room → held limit (run kind c table order) ≡ after kind c table order (length order)
-  unfolding held after
-  held-last h =
-      let e : room ≡ suc (length order) = omega (arith, roomy-le limit (run kind c table order), length-run kind c table order) in
-      rw e
-
-  -- all have: E, D or U by the last one
-  pub verdict-ended : length order < room
-      → verdict kind c table limit order ≡ ended kind c table (length order) (after kind c table order (length order))
-  unfolding verdict
-  verdict-ended h = rw (lt-leb room (length order) h, held-last h)
-
-  -- an answer that is not R: all have room, and it is what is said of the last one
-  pub not-room : (k : ℕ) (numbers : List ℕ) → (k ≡ 2 → ⊥) → answers k numbers ≡ verdict kind c table limit order
-      → (length order < room) × (answers k numbers ≡ ended kind c table (length order) (after kind c table order (length order)))
-  not-room k numbers other h = go (leb room (length order)) refl
-    where
-      go : (t : Bool) → leb room (length order) ≡ t
-          → (length order < room) × (answers k numbers ≡ ended kind c table (length order) (after kind c table order (length order)))
-      go true e =
-          let z = h ∙ verdict-room (leb-true room (length order) e) in
-          let y : k ≡ 2 = cc in absurd (other y)
-      go false e = let l = leb-false room (length order) e in (l, h ∙ verdict-ended l)
-
--- an answer that is not R is what is said of the last polynomial
-pub answer-ended : (x : Inputs) (k : ℕ) (numbers : List ℕ) → (k ≡ 2 → ⊥) → answers k numbers ≡ judging x
-    → answers k numbers
-    ≡ ended (kind-of (x .kind)) (x .counts) (x .table) (length (x .order)) (after (kind-of (x .kind)) (x .counts) (x .table) (x .order) (length (x .order)))
-answer-ended x k numbers other h =
-    not-room (kind-of (x .kind)) (x .counts) (x .table) (x .limit) (x .order) k numbers other (answer-verdict x k numbers h) .1
+-- how many of them have room before one has not
+abbrev pub room : Inputs → ℕ
+room x = roomy (x .limit) (polynomials-on x)
 
 -- what D says: the last polynomial has terms, of input variables only; the pair is its soonest set's, with the two words there
-pub record Differing (kind : Kind) (c : Counts) (table : List ℕ) (p : Polynomial) (a b g w : ℕ) : Type 0 where
+pub record Differing (x : Inputs) (a b g w : ℕ) : Type 0 where
   pub head : Term
   pub tail : Polynomial
-  pub parts : p ≡ head ∷ tail
-  pub inputs : inputs-only c p ≡ true
-  pub first : a ≡ pair-a (width c) (soonest (head .1) tail)
-  pub second : b ≡ pair-b (width c) (soonest (head .1) tail)
-  pub shows : g ≡ shown c table a b
-  pub wants : w ≡ product kind (width c) a b
+  pub parts : last x ≡ head ∷ tail
+  pub inputs : inputs-only (x .counts) (head ∷ tail) ≡ true
+  pub first : a ≡ pair-a (width (x .counts)) (soonest (head .1) tail)
+  pub second : b ≡ pair-b (width (x .counts)) (soonest (head .1) tail)
+  pub shows : g ≡ shown (x .counts) (x .table) a b
+  pub wants : w ≡ product (kind-of (x .kind)) (width (x .counts)) a b
 
-module _ (kind : Kind) (c : Counts) (table : List ℕ) (steps : ℕ) where
-  -- the last polynomial has a variable that is no input: U
-  pub ended-unfinished : (p : Polynomial) → inputs-only c p ≡ false → ended kind c table steps p ≡ answers 3 (steps ∷ length p ∷ [])
+-- what an answer says of the run
+abbrev pub Means : Inputs → Says → Type 0
+Means x (refuses k) = ⊥
+Means x (answers zero numbers) = last x ≡ []
+Means x (answers (suc zero) numbers) = Differing x (getD numbers 2 0) (getD numbers 3 0) (getD numbers 4 0) (getD numbers 5 0)
+Means x (answers (suc (suc zero)) numbers) =
+    (room x ≤ length (x .order)) × (room x ≡ getD numbers 0 0) × (length (held (x .limit) (polynomials-on x)) ≡ getD numbers 1 0)
+Means x (answers (suc (suc (suc k))) numbers) = (length (x .order) < room x) × (inputs-only (x .counts) (last x) ≡ false)
+
+module _ (x : Inputs) where
+  -- there is one polynomial more than there are steps
+  pub length-polynomials : length (polynomials-on x) ≡ suc (length (x .order))
+  length-polynomials = length-run (kind-of (x .kind)) (x .counts) (x .table) (x .order)
+
+  -- one of them has no room: R
+  pub verdict-room : room x ≤ length (x .order) → verdict-on x ≡ answers 2 (room x ∷ length (held (x .limit) (polynomials-on x)) ∷ [])
+  unfolding verdict
+  verdict-room h = rw (le-leb (room x) (length (x .order)) h)
+
+  -- all have: the last one is held
+  held-last : length (x .order) < room x → held (x .limit) (polynomials-on x) ≡ last x
+  unfolding held after
+  held-last h =
+      let e : room x ≡ suc (length (x .order)) = omega (arith, roomy-le (x .limit) (polynomials-on x), length-polynomials) in
+      rw e
+
+  -- what is said of the last one
+  abbrev ending : Polynomial → Says
+  ending = ended (kind-of (x .kind)) (x .counts) (x .table) (length (x .order))
+
+  -- all have room: E, D or U by the last one
+  verdict-ended : length (x .order) < room x → verdict-on x ≡ ending (last x)
+  unfolding verdict
+  verdict-ended h = rw (lt-leb (room x) (length (x .order)) h, held-last h)
+
+  -- it has a variable that is no input: U
+  ended-unfinished : (p : Polynomial) → inputs-only (x .counts) p ≡ false → ending p ≡ answers 3 (length (x .order) ∷ length p ∷ [])
   unfolding ended inputs-only every
   ended-unfinished [] h = absurd (true≢false h)
   ended-unfinished (t ∷ p) h = rw h
 
-  -- it has terms, of input variables only: D
-  pub ended-differs : (t : Term) (p : Polynomial) → inputs-only c (t ∷ p) ≡ true
-      → ended kind c table steps (t ∷ p) ≡ differs kind c table steps (length (t ∷ p)) (soonest (t .1) p)
-  unfolding ended
-  ended-differs t p h = rw h
+  -- all have room and the last one has a variable that is no input: U
+  pub verdict-unfinished : length (x .order) < room x → inputs-only (x .counts) (last x) ≡ false
+      → verdict-on x ≡ answers 3 (length (x .order) ∷ length (last x) ∷ [])
+  verdict-unfinished h k = verdict-ended h ∙ ended-unfinished (last x) k
 
-  -- E: the last polynomial is zero
-  pub said-equal : (numbers : List ℕ) (p : Polynomial) → answers 0 numbers ≡ ended kind c table steps p → p ≡ []
-  unfolding differs
-  said-equal numbers [] h = refl
-  said-equal numbers (t ∷ p) h = go (inputs-only c (t ∷ p)) refl
-    where
-      go : (b : Bool) → inputs-only c (t ∷ p) ≡ b → t ∷ p ≡ []
-      go true e = let y = h ∙ ended-differs t p e in let z : _≡_ {A = ℕ} 0 1 = cc in absurd (omega arith)
-      go false e = let y = h ∙ ended-unfinished (t ∷ p) e in let z : _≡_ {A = ℕ} 0 3 = cc in absurd (omega arith)
-
-  -- D: what it says
-  pub said-differs : (k terms a b g w : ℕ) (p : Polynomial)
-      → answers 1 (k ∷ terms ∷ a ∷ b ∷ g ∷ w ∷ []) ≡ ended kind c table steps p → Differing kind c table p a b g w
+  -- what is said of the last polynomial is so
+  ended-means : length (x .order) < room x → (p : Polynomial) → last x ≡ p → Means x (ending p)
   unfolding ended differs
-  said-differs k terms a b g w [] h = let z : _≡_ {A = ℕ} 0 1 = cc in absurd (omega arith)
-  said-differs k terms a b g w (t ∷ p) h = go (inputs-only c (t ∷ p)) refl
+  ended-means over [] e = e
+  ended-means over (t ∷ p) e = go (inputs-only (x .counts) (t ∷ p)) refl
     where
-      go : (d : Bool) → inputs-only c (t ∷ p) ≡ d → Differing kind c table (t ∷ p) a b g w
-      go true e =
-          let y = h ∙ ended-differs t p e in
-          let ea : a ≡ pair-a (width c) (soonest (t .1) p) = cc in
-          let eb : b ≡ pair-b (width c) (soonest (t .1) p) = cc in
-          record { head = t; tail = p; parts = refl; inputs = e; first = ea; second = eb; shows = cc; wants = cc }
-      go false e = let y = h ∙ ended-unfinished (t ∷ p) e in let z : _≡_ {A = ℕ} 1 3 = cc in absurd (omega arith)
+      go : (b : Bool) → inputs-only (x .counts) (t ∷ p) ≡ b
+          → Means x (cond b (differs (kind-of (x .kind)) (x .counts) (x .table) (length (x .order)) (length (t ∷ p)) (soonest (t .1) p))
+          (answers 3 (length (x .order) ∷ length (t ∷ p) ∷ [])))
+      go true k = record { head = t; tail = p; parts = e; inputs = k; first = refl; second = refl; shows = refl; wants = refl }
+      go false k = (over, rw e k)
+
+  -- what the verdict says is so
+  verdict-means : (s : Says) → s ≡ verdict-on x → Means x s
+  verdict-means s h = rw h (go (leb (room x) (length (x .order))) refl)
+    where
+      go : (t : Bool) → leb (room x) (length (x .order)) ≡ t → Means x (verdict-on x)
+      go true e = let within = leb-true _ _ e in rw (verdict-room within) (within, refl, refl)
+      go false e = let over = leb-false _ _ e in rw (verdict-ended over) (ended-means over (last x) refl)
+
+  -- the verdict is no refusal
+  pub verdict-answers : (k : ℕ) → refuses k ≡ verdict-on x → ⊥
+  verdict-answers k h = verdict-means (refuses k) h
+
+  -- an answer says that nothing is refused, and what it says is so
+  pub answer-means : (k : ℕ) (numbers : List ℕ) → answers k numbers ≡ judging x → (refusal x ≡ 0) × Means x (answers k numbers)
+  unfolding judging
+  answer-means k numbers h =
+      let said = answered (refusal x) (verdict-on x) k numbers h in
+      (said .0, verdict-means (answers k numbers) (said .1))

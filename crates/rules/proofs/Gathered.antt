@@ -4,12 +4,13 @@ use mathlib.Core.Path.{_≡_, refl, sym, _∙_}
 use mathlib.Core.Bool.{Bool, true, false}
 use mathlib.Core.List.{[], _∷_}
 use Prim.Native.Nat.{ℕ, zero, suc, _+_, _%_, _<_, _≤_}
-use native.Mathlib.Nat.{add-assoc, add-left-comm, add-zero, zero-add, mod-lt, mod-add-mod, add-mod-mod, mod-eq-of-lt}
+use native.Mathlib.Nat.{add-zero, zero-add, mod-lt, mod-eq-of-lt}
 use native.Mathlib.Omega.{arith}
 use lib.Dec.{ltb, eqb}
 use borrow.Author.Tests.{eqb-true, eqb-false, ltb-true, ltb-false}
 use Rattle.rules.specs.Polynomial.{Term, Polynomial, hit, coefficient-at, Below, Coefficients, Under, keep, place, insert, gather}
-use Rattle.rules.proofs.Terms.{hit-same, hit-other, hit-add, hit-zero, hit-mod, weaken, above, coefficient-cons, same}
+use Rattle.rules.proofs.Weighed.{hit-times, weighed-coefficient, weighed-keep, weighed-gather}
+use Rattle.rules.proofs.Terms.{hit-same, hit-other, weaken, above, same}
 
 pub keep-below : (c s b : ℕ) (p : Polynomial) → s < b → Below s p → Below b (keep c s p)
 unfolding keep
@@ -22,9 +23,8 @@ keep-coefficients m zero s p h k = k
 keep-coefficients m (suc c) s p h k = (omega arith, h, k)
 
 pub keep-coefficient : (c s : ℕ) (p : Polynomial) (u : ℕ) → coefficient-at (keep c s p) u ≡ hit u s c + coefficient-at p u
-unfolding keep
-keep-coefficient zero s p u = rw (hit-zero s u, zero-add)
-keep-coefficient (suc c) s p u = coefficient-cons (suc c, s) p u
+keep-coefficient c s p u =
+    rw (weighed-coefficient u (keep c s p), weighed-coefficient u p, hit-times u s c) (weighed-keep (λ s. hit u s 1) c s p)
 
 module _ (m c s : ℕ) (x : Term) (p q : Polynomial) where
   place-below : (b : ℕ) (e l : Bool) → eqb s (x .1) ≡ e → ltb s (x .1) ≡ l → s < b → Below b (x ∷ p)
@@ -44,15 +44,6 @@ module _ (m c s : ℕ) (x : Term) (p q : Polynomial) where
   place-coefficients false true h k j = (k .0, k .1, j)
   place-coefficients false false h k j = keep-coefficients m _ s (x ∷ p) (mod-lt _ h) k
 
-  place-coefficient : (u : ℕ) (e l : Bool) → eqb s (x .1) ≡ e → coefficient-at q u % m ≡ (hit u s c + coefficient-at p u) % m
-      → coefficient-at (place m c s x p q e l) u % m ≡ (hit u s c + coefficient-at (x ∷ p) u) % m
-  unfolding place
-  place-coefficient u true l e h =
-      let z : s ≡ x .1 = eqb-true s (x .1) e in
-      rw (keep-coefficient _ s p u, hit-mod s u m (c + x .0), mod-add-mod, hit-add, coefficient-cons x p u, add-assoc, z)
-  place-coefficient u false true e h = rw (coefficient-cons x q u, coefficient-cons x p u, ← add-mod-mod, h, add-mod-mod, add-left-comm)
-  place-coefficient u false false e h = rw (keep-coefficient _ s (x ∷ p) u, hit-mod s u m c, mod-add-mod)
-
 pub insert-below : (m c s b : ℕ) (p : Polynomial) → s < b → Below b p → Below b (insert m c s p)
 unfolding insert
 insert-below m c s b [] h u = keep-below (c % m) s b [] h tt
@@ -65,11 +56,6 @@ unfolding insert
 insert-coefficients m c s [] h k = keep-coefficients m (c % m) s [] (mod-lt c h) tt
 insert-coefficients m c s (x ∷ p) h k = place-coefficients m c s x p (insert m c s p) (eqb s (x .1)) (ltb s (x .1)) h k (insert-coefficients m c s p h (k .2))
 
-pub insert-coefficient : (m c s : ℕ) (p : Polynomial) (u : ℕ) → coefficient-at (insert m c s p) u % m ≡ (hit u s c + coefficient-at p u) % m
-unfolding insert
-insert-coefficient m c s [] u = rw (keep-coefficient (c % m) s [] u, hit-mod s u m c, mod-add-mod)
-insert-coefficient m c s (x ∷ p) u = place-coefficient m c s x p (insert m c s p) u (eqb s (x .1)) (ltb s (x .1)) refl (insert-coefficient m c s p u)
-
 pub gather-below : (m b : ℕ) (r : Polynomial) → Under b r → Below b (gather m r)
 unfolding gather
 gather-below m b [] h = tt
@@ -81,9 +67,7 @@ gather-coefficients m [] h = tt
 gather-coefficients m (t ∷ r) h = insert-coefficients m (t .0) (t .1) (gather m r) h (gather-coefficients m r h)
 
 pub gather-coefficient : (m : ℕ) (r : Polynomial) (u : ℕ) → coefficient-at (gather m r) u % m ≡ coefficient-at r u % m
-unfolding gather
-gather-coefficient m [] u = refl
-gather-coefficient m (t ∷ r) u = rw (insert-coefficient m (t .0) (t .1) (gather m r) u, ← add-mod-mod, gather-coefficient m r u, add-mod-mod, coefficient-cons t r u)
+gather-coefficient m r u = rw (weighed-coefficient u (gather m r), weighed-coefficient u r) (weighed-gather (λ s. hit u s 1) m r)
 
 -- a coefficient of a normal list is below m
 pub coefficient-lt : (m b : ℕ) (p : Polynomial) (u : ℕ) → 0 < m → Below b p → Coefficients m p → coefficient-at p u < m

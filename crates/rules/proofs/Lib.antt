@@ -1,6 +1,17 @@
 -- The laws of the definitions.
+
+-- indices, lists, remainders and bits
 pub mod Indices
+pub mod All
+pub mod Remainders
+pub mod Bits
+-- counts and tables
 pub mod Sound
+-- polynomials, and the polynomials of a run
+pub mod Weighed
 pub mod Terms
 pub mod Gathered
+pub mod AllSets
+pub mod Trails
+-- outcomes
 pub mod OneOutcome

@@ -3,11 +3,12 @@ use mathlib.Core.Path.{_≡_, refl, sym, _∙_}
 use mathlib.Core.Bool.{Bool, true, false, cond}
 use mathlib.Core.List.{[], _∷_, _++_}
 use Prim.Native.Nat.{ℕ, _+_, _%_, _<_, _≤_}
-use native.Mathlib.Nat.{add-assoc, add-zero, zero-add, zero-mod}
+use native.Mathlib.Nat.{add-zero, zero-add, zero-mod}
 use native.Mathlib.Omega.{arith}
 use lib.Dec.{ltb, eqb}
 use borrow.Author.Tests.{eq-eqb, ne-eqb, ltb-true, ltb-false}
 use Rattle.rules.specs.Polynomial.{Term, Polynomial, hit, coefficient-at, Below, Coefficients}
+use Rattle.rules.proofs.Weighed.{weighed-coefficient, weighed-append}
 
 pub hit-same : (s u c : ℕ) → s ≡ u → hit u s c ≡ c
 unfolding hit
@@ -104,6 +105,5 @@ same m b d (x ∷ p) (y ∷ q) hp hq kp kq e =
 
 -- the coefficient of two lists, one behind the other
 pub coefficient-append : (p q : Polynomial) (u : ℕ) → coefficient-at (p ++ q) u ≡ coefficient-at p u + coefficient-at q u
-unfolding coefficient-at
-coefficient-append [] q u = sym (zero-add (coefficient-at q u))
-coefficient-append (x ∷ p) q u = rw (coefficient-append p q u, add-assoc)
+coefficient-append p q u =
+    rw (weighed-coefficient u (p ++ q), weighed-coefficient u p, weighed-coefficient u q) (weighed-append (λ s. hit u s 1) p q)

@@ -1,12 +1,21 @@
 -- Numbers that are the same modulo m.
-use mathlib.Core.Path.{_≡_, refl, sym, _∙_}
+use mathlib.Core.Path.{_≡_, refl, ap, sym, _∙_}
 use mathlib.Core.Bool.{Bool, true, false, xor, cond}
-use Prim.Native.Nat.{ℕ, zero, suc, _+_, _-_, _*_, _%_, _<_}
-use native.Mathlib.Nat.{mul-zero, mul-left-comm, add-assoc, add-comm, add-right-comm, add-zero, mul-add, mul-assoc, suc-mul, mod-lt, mod-self, mod-mod, add-mod-mod, add-mod, mul-mod-right}
+use Prim.Native.Nat.{ℕ, zero, suc, _+_, _-_, _*_, _/_, _%_, _<_}
+use native.Mathlib.Nat.{mul-zero, mul-comm, mul-left-comm, mul-right-comm, add-mul, add-mul-mod-self-right, mod-add-div', add-assoc, add-comm, add-right-comm, add-zero, mul-add, mul-assoc, suc-mul, mod-lt, mod-self, mod-mod, add-mod-mod, add-mod, mul-mod-right}
 use native.Mathlib.Omega.{arith}
 use Rattle.rules.specs.Each.{sum}
 use Rattle.rules.specs.Product.{modulo}
-use Rattle.demands.proofs.Value.{mod-mul-mod, mul-mod-mod}
+
+-- the first factor may be reduced modulo m
+pub mod-mul-mod : (a b m : ℕ) → (a % m) * b % m ≡ a * b % m
+mod-mul-mod a b m =
+    sym (add-mul-mod-self-right ((a % m) * b) (a / m * b) m)
+    ∙ ap (λ (x : ℕ). x % m) (rw (mul-right-comm (a / m) b m, ← add-mul, mod-add-div' a m))
+
+-- the second factor may be reduced, too
+pub mul-mod-mod : (a b m : ℕ) → a * (b % m) % m ≡ a * b % m
+mul-mod-mod a b m = rw (mul-comm a (b % m), mul-comm a b) (mod-mul-mod b a m)
 
 -- sums of same numbers are the same
 pub same-add : (m a b x y : ℕ) → a % m ≡ b % m → x % m ≡ y % m → (a + x) % m ≡ (b + y) % m

@@ -1,0 +1,46 @@
+-- What a line holds: what is written into zeros; and when that is the desk's line.
+use mathlib.Core.Path.{_≡_, _∙_}
+use mathlib.Core.List.{List, [], _∷_, _++_}
+use Prim.Native.Nat.{ℕ, zero, suc, _+_, _-_, _<_}
+use native.Mathlib.Nat.{zero-add, sub-zero, zero-sub, suc-sub-suc}
+use native.Mathlib.Omega.{arith}
+use lib.ListN.{length, drop, set, replicate}
+use Rattle.rules.specs.Text.{line-feed}
+use Rattle.rules.specs.Says.{Says}
+use Rattle.rules.specs.Desk.{line-room, spaced, desk-says, desk-line, Lined}
+use Rattle.rules.specs.declared.answers.Line.{Line}
+use Rattle.desk.specs.Written.{Written}
+use Rattle.desk.specs.Line.{Holds, Formatted}
+use Rattle.desk.proofs.Written.{written-one, written-joined}
+
+-- a row of zeros without its first ones is a shorter row of zeros
+zeros-behind : (n room : ℕ) → drop {A = ℕ} n (replicate room 0) ≡ replicate (room - n) 0
+zeros-behind zero room = rw sub-zero
+zeros-behind (suc n) zero = rw zero-sub
+zeros-behind (suc n) (suc room) = rw suc-sub-suc (zeros-behind n room)
+
+-- a line that a text is written into holds that text
+holds-written : (text all : List ℕ) (r : ℕ) → Written (replicate line-room 0) 0 text all r → Holds text all r
+holds-written text all r w = record {
+  bytes = w .all ∙ rw (zero-add, zeros-behind (length text) line-room);
+  len = w .end ∙ zero-add (length text);
+}
+
+-- a line that a letter, its numbers and a line end are written into
+pub line-holds : (letter : ℕ) (numbers bytes : List ℕ) (end : ℕ) → end < length bytes
+    → Written (letter ∷ replicate (line-room - 1) 0) 1 (spaced numbers) bytes end
+    → Holds (letter ∷ spaced numbers ++ line-feed ∷ []) (set bytes end line-feed) (end + 1)
+line-holds letter numbers bytes end h w =
+    let zeros : List ℕ = replicate line-room 0 in
+    let first : Written zeros 0 (letter ∷ []) (set zeros 0 letter) 1 = written-one zeros 0 letter (omega arith) in
+    let both : Written zeros 0 (letter ∷ spaced numbers) bytes end =
+    written-joined zeros (set zeros 0 letter) bytes (letter ∷ []) (spaced numbers) 0 1 end (omega arith) first w in
+    holds-written _ _ _
+    (written-joined zeros bytes _ (letter ∷ spaced numbers) (line-feed ∷ []) 0 end _ (omega arith) both (written-one bytes end line-feed h))
+
+-- a line that holds what the desk says of an input is the desk's line
+pub formatted-lined : (input : List ℕ) (said : Says) (r : Line) → said ≡ desk-says input → Formatted said r → Lined input r
+unfolding desk-line
+formatted-lined input said r e f =
+    let g : Formatted (desk-says input) r = rw e at f in
+    record { bytes = g .bytes; len = g .len }

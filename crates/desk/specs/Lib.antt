@@ -1,0 +1,3 @@
+-- What the desk's functions promise.
+pub mod Written
+pub mod Line

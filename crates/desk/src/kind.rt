@@ -1,0 +1,19 @@
+// The kind of block that the desk's first line names.
+ghost use mathlib.Core.Path.{_≡_};
+ghost use Rattle.rules.specs.Desk.{kind-named as Desk·kind-named};
+
+// The number of the kind that a byte names; 3 is no kind.
+pub fn kind_named(x: u8) -> u32
+    ensures { λ r. ⌜ r ≡ Desk·kind-named x ⌝ }
+{
+    if x == b'u' {
+        return 0;
+    }
+    if x == b's' {
+        return 1;
+    }
+    if x == b't' {
+        return 2;
+    }
+    3
+}

@@ -1,0 +1,124 @@
+-- What holds of every set of a polynomial, or of every term, and what a step keeps of it.
+use mathlib.Core.Path.{_≡_}
+use mathlib.Core.Bool.{Bool, true, false}
+use mathlib.Core.List.{List, [], _∷_}
+use mathlib.Core.Logic.{⊎-elim}
+use Prim.Native.Nat.{ℕ, zero, suc, _+_, _-_, _%_, _^_, _<_}
+use native.Mathlib.Omega.{arith}
+use lib.Dec.{eqb, ltb}
+use Rattle.rules.specs.Each.{joined}
+use Rattle.rules.specs.Netlist.{variable, inverted, output, rhs0, rhs1}
+use Rattle.rules.specs.Values.{width, bit}
+use Rattle.rules.specs.Product.{Kind}
+use Rattle.rules.specs.Polynomial.{Term, Polynomial, Under, keep, place, insert, gather, with-variable, times-variable, times-literal}
+use Rattle.rules.specs.Steps.{modulus, product-term, start-terms, where-held, replaced, all-replaced, step}
+use Rattle.rules.specs.declared.counts.Counts.{Counts}
+use Rattle.rules.proofs.All.{All, all-append, all-joined}
+use Rattle.rules.proofs.Bits.{bit-cases}
+
+-- P holds of every set
+abbrev pub AllSets : (ℕ → Type 0) → Polynomial → Type 0
+AllSets P = All (λ (t : Term). P (t .1))
+
+-- every set is below a bound
+pub sets-under : (b : ℕ) (p : Polynomial) → AllSets (λ s. s < b) p → Under b p
+sets-under b [] h = tt
+sets-under b (t ∷ p) h = (h .0, sets-under b p (h .1))
+
+module _ (P : ℕ → Type 0) where
+  -- of one term more
+  all-keep : (c s : ℕ) (p : Polynomial) → P s → AllSets P p → AllSets P (keep c s p)
+  unfolding keep
+  all-keep zero s p e h = h
+  all-keep (suc c) s p e h = (e, h)
+
+  -- of one term more, put at its place
+  all-place : (m c s : ℕ) (t : Term) (p lower : Polynomial) (same less : Bool) → P s → AllSets P (t ∷ p) → AllSets P lower
+      → AllSets P (place m c s t p lower same less)
+  unfolding place
+  all-place m c s t p lower true less e h k = all-keep _ s p e (h .1)
+  all-place m c s t p lower false true e h k = (h .0, k)
+  all-place m c s t p lower false false e h k = all-keep _ s (t ∷ p) e h
+
+  -- of one term more, gathered
+  all-insert : (m c s : ℕ) (p : Polynomial) → P s → AllSets P p → AllSets P (insert m c s p)
+  unfolding insert
+  all-insert m c s [] e h = all-keep (c % m) s [] e tt
+  all-insert m c s (t ∷ p) e h = all-place m c s t p (insert m c s p) (eqb s (t .1)) (ltb s (t .1)) e h (all-insert m c s p e (h .1))
+
+  -- of what is gathered
+  pub all-gather : (m : ℕ) (p : Polynomial) → AllSets P p → AllSets P (gather m p)
+  unfolding gather
+  all-gather m [] h = tt
+  all-gather m (t ∷ p) h = all-insert m (t .0) (t .1) (gather m p) (h .0) (all-gather m p (h .1))
+
+-- P stays where variable v is put into a term's set, also with m less its coefficient
+abbrev pub TermJoins : ℕ → (Term → Type 0) → ℕ → Type 0
+TermJoins m P v = 0 < v → (t : Term) → P t → P (t .0, with-variable (t .1) v) × P (m - t .0, with-variable (t .1) v)
+
+module _ (P : Term → Type 0) (m : ℕ) where
+  -- of a term times a variable or its inverse
+  all-variable : (v n : ℕ) (t : Term) → TermJoins m P v → P t → All P (times-variable m v n t)
+  unfolding times-variable
+  all-variable zero zero t joins h = tt
+  all-variable zero (suc k) t joins h = (h, tt)
+  all-variable (suc v) zero t joins h = (joins (omega arith) t h .0, tt)
+  all-variable (suc v) (suc k) t joins h = (h, (joins (omega arith) t h .1, tt))
+
+  -- of a polynomial times a literal
+  pub all-literal : (x : ℕ) (p : Polynomial) → TermJoins m P (variable x) → All P p → All P (times-literal m x p)
+  unfolding times-literal
+  all-literal x [] joins h = tt
+  all-literal x (t ∷ p) joins h =
+      all-append P (times-variable m (variable x) (inverted x) t) (times-literal m x p)
+      (all-variable (variable x) (inverted x) t joins (h .0))
+      (all-literal x p joins (h .1))
+
+-- P stays where variable v is put into a set
+abbrev pub Joins : (ℕ → Type 0) → ℕ → Type 0
+Joins P v = 0 < v → (s : ℕ) → P s → P (with-variable s v)
+
+-- of the sets of a polynomial times a literal
+pub all-literal-sets : (P : ℕ → Type 0) (m x : ℕ) (p : Polynomial) → Joins P (variable x) → AllSets P p → AllSets P (times-literal m x p)
+all-literal-sets P m x p joins = all-literal (λ t. P (t .1)) m x p (λ l t h. (joins l (t .1) h, joins l (t .1) h))
+
+-- of the start's terms: P holds of the empty set, stays with the outputs' variables, and holds of the sets of the product
+pub all-start : (P : ℕ → Type 0) (kind : Kind) (c : Counts) (table : List ℕ) → P 0
+    → ((i : ℕ) → i < c .o → Joins P (variable (output table i)))
+    → ((i j : ℕ) → i < width c → j < width c → P (2 ^ (1 + i) + 2 ^ (width c + 1 + j)))
+    → AllSets P (start-terms kind c table)
+unfolding start-terms product-term
+all-start P kind c table none joins two =
+    let m = modulus kind c in
+    let outputs : ℕ → Polynomial = λ i. times-literal m (output table i) ((2 ^ i, 0) ∷ []) in
+    let products : ℕ → ℕ → Polynomial = λ i j. product-term kind m (width c) i j ∷ [] in
+    all-append (λ t. P (t .1)) (joined (c .o) outputs) (joined (width c) (λ i. joined (width c) (products i)))
+    (all-joined (λ t. P (t .1)) (c .o) outputs (λ i l. all-literal-sets P m (output table i) ((2 ^ i, 0) ∷ []) (joins i l) (none, tt)))
+    (all-joined (λ t. P (t .1)) (width c) (λ i. joined (width c) (products i))
+    (λ i k. all-joined (λ t. P (t .1)) (width c) (products i) (λ j l. (two i j k l, tt))))
+
+-- P before, and Q after v is replaced by literals whose variables keep Q: Q holds without v, and where v is taken out
+module _ (P Q : ℕ → Type 0) (m v : ℕ) (without : (s : ℕ) → bit s v ≡ 0 → P s → Q s) (out : (s : ℕ) → bit s v ≡ 1 → P s → Q (s - 2 ^ v)) where
+  module _ (x y : ℕ) (first : Joins Q (variable x)) (second : Joins Q (variable y)) where
+    -- of a term
+    all-term-replaced : (t : Term) → P (t .1) → AllSets Q (replaced m v x y t)
+    unfolding replaced where-held
+    all-term-replaced t h = ⊎-elim
+        (λ (e : bit (t .1) v ≡ 0). rw e (without (t .1) e h, tt))
+        (λ (e : bit (t .1) v ≡ 1). rw e (all-literal-sets Q m x _ first (all-literal-sets Q m y _ second (out (t .1) e h, tt))))
+        (bit-cases (t .1) v)
+
+    -- of every term
+    pub all-terms-replaced : (p : Polynomial) → AllSets P p → AllSets Q (all-replaced m v x y p)
+    unfolding all-replaced
+    all-terms-replaced [] h = tt
+    all-terms-replaced (t ∷ p) h =
+        all-append (λ t. Q (t .1)) (replaced m v x y t) (all-replaced m v x y p) (all-term-replaced t (h .0)) (all-terms-replaced p (h .1))
+
+  -- of a step
+  pub all-step : (c : Counts) (table : List ℕ) → Joins Q (variable (rhs0 c table v)) → Joins Q (variable (rhs1 c table v))
+      → (p : Polynomial) → AllSets P p → AllSets Q (step m c table v p)
+  unfolding step
+  all-step c table first second p h =
+      all-gather Q m (all-replaced m v (rhs0 c table v) (rhs1 c table v) p)
+      (all-terms-replaced (rhs0 c table v) (rhs1 c table v) first second p h)

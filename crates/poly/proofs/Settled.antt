@@ -1,0 +1,200 @@
+-- Laws of the step in the store: the look for v, what is moved and cleared, and the state for the next step.
+use mathlib.Core.Path.{_≡_, refl, ap, sym, _∙_}
+use mathlib.Core.Bool.{Bool, true, false, not, cond}
+use mathlib.Core.List.{List, _∷_, _++_}
+use Prim.Native.Nat.{ℕ, suc, _+_, _-_, _*_, _/_, _^_, _<_, _≤_}
+use native.Mathlib.Numerals.{add-one}
+use native.Mathlib.Omega.{arith}
+use lib.Dec.{ltb, leb}
+use lib.ListN.{length, getD, take, drop, replicate, length-append, length-replicate, replicate-append-replicate, drop-of-length-le}
+use lib.Pow.{pow-pos}
+use lib.Seq.{drop-cons, drop-drop, take-at, drop-at, length-take-le}
+use borrow.Author.Tests.{eq-eqb, ne-eqb, ltb-true, ltb-false, le-leb, lt-leb}
+use Rattle.rules.specs.Judging.{polynomial-words, padded}
+use Rattle.rules.specs.Netlist.{variable}
+use Rattle.rules.specs.Polynomial.{Polynomial, Below, gather}
+use Rattle.rules.specs.Steps.{all-replaced}
+use Rattle.rules.specs.Values.{bit}
+use Rattle.rules.proofs.Gathered.{under-of, gather-coefficients}
+use Rattle.words.specs.Stored.{term-at, decoded}
+use Rattle.words.specs.Numbers.{num, words-at}
+use Rattle.words.proofs.Stored.{decoded-at, length-decoded, stride-le}
+use Rattle.words.proofs.Encoded.{length-polynomial-words, words-decoded, decoded-stored, zeros-behind}
+use Rattle.poly.specs.Signs.{Apart}
+use Rattle.poly.specs.Streams.{Emitted}
+use Rattle.poly.specs.Stepping.{occurs-in, Gathered, Replaced, Ready, Stepped}
+use Rattle.poly.specs.declared.gates.Pair.{Pair}
+use Rattle.poly.proofs.Replacing.{step-alike, step-absent, step-below}
+use Rattle.poly.proofs.Tables.{small-of, drop-zeros}
+
+-- what was written, by what was found: no coefficient
+pub emit-skip : (w o limit c : ℕ) (set d : List ℕ) → c ≡ 0 → Emitted w o limit c set d d o
+emit-skip w o limit c set d e = record { skip = λ z. (refl, refl); full = λ z. absurd (omega arith); put = λ z. absurd (omega arith) }
+
+-- no room
+pub emit-full : (w o limit c : ℕ) (set d : List ℕ) → (c ≡ 0 → ⊥) → o ≡ limit → Emitted w o limit c set d d (limit + 1)
+emit-full w o limit c set d n e = record { skip = λ z. absurd (n z); full = λ z y. (refl, refl); put = λ z y. absurd (omega arith) }
+
+-- a term
+pub emit-put : (w o limit c : ℕ) (set d d′ : List ℕ) → (c ≡ 0 → ⊥) → (o ≡ limit → ⊥)
+    → d′ ≡ take (o * (w + 1)) d ++ ((c ∷ set) ++ drop (o * (w + 1) + (w + 1)) d) → Emitted w o limit c set d d′ (o + 1)
+emit-put w o limit c set d d′ n m e = record { skip = λ z. absurd (n z); full = λ z y. absurd (m y); put = λ z y. (refl, e) }
+
+-- the look for v at the i-th term of n; x is what was found there
+module _ (w n i v x : ℕ) (s : List ℕ) (h : i < n) (e : x ≡ bit (num (words-at s (i * (w + 1) + 1) w)) v) where
+  -- the list from that term on
+  at-term : drop i (decoded w n s) ≡ term-at w s (i * (w + 1)) ∷ drop (suc i) (decoded w n s)
+  at-term = drop-cons (decoded w n s) i (0, 0) (omega (arith, length-decoded w n s)) ∙ rw (decoded-at w n i s h)
+
+  -- v is there
+  pub occurs-here : x ≡ 1 → true ≡ occurs-in v (drop i (decoded w n s))
+  unfolding occurs-in
+  occurs-here z = rw (at-term, eq-eqb (bit (num (words-at s (i * (w + 1) + 1) w)) v) 1 (sym e ∙ z))
+
+  -- v is not there
+  pub occurs-later : (x ≡ 1 → ⊥) → occurs-in v (drop i (decoded w n s)) ≡ occurs-in v (drop (i + 1) (decoded w n s))
+  unfolding occurs-in
+  occurs-later z = rw (add-one i, at-term, ne-eqb (bit (num (words-at s (i * (w + 1) + 1) w)) v) 1 (λ q. z (e ∙ q)))
+
+-- no term is left
+pub occurs-none : (w n i v : ℕ) (s : List ℕ) → n ≤ i → false ≡ occurs-in v (drop i (decoded w n s))
+unfolding occurs-in
+occurs-none w n i v s h = rw (drop-of-length-le (decoded w n s) {i = i} (omega (arith, length-decoded w n s)))
+
+-- the larger of two numbers
+pub larger-than : (a b u : ℕ) → u ≡ cond (ltb a b) b a → (a ≤ u) × (b ≤ u) × ((c : ℕ) → a ≤ c → b ≤ c → u ≤ c)
+larger-than a b u e = go (ltb a b) refl e
+  where
+    go : (t : Bool) → ltb a b ≡ t → u ≡ cond t b a → (a ≤ u) × (b ≤ u) × ((c : ℕ) → a ≤ c → b ≤ c → u ≤ c)
+    go true d f = let l : a < b = ltb-true a b d in (omega arith, omega arith, λ c p q. omega arith)
+    go false d f = let l : b ≤ a = ltb-false a b d in (omega arith, omega arith, λ c p q. omega arith)
+
+-- E words moved to the front of a store that is zeros from word N on; cleared up to word U
+pub moved : (E N U : ℕ) (store scratch d d′ : List ℕ) → E ≤ U → N ≤ U → U ≤ length store → E ≤ length scratch → drop N store ≡ replicate (length store - N) 0
+    → d ≡ take E scratch ++ drop E store → d′ ≡ take E d ++ (replicate (U - E) 0 ++ drop U d) → d′ ≡ take E scratch ++ replicate (length store - E) 0
+moved E N U store scratch d d′ he hn hu hs z c k =
+    let l : length (take E scratch) ≡ E = length-take-le E scratch hs in
+    let f : take E d ≡ take E scratch = ap (λ (x : List ℕ). take E x) c ∙ take-at (take E scratch) (drop E store) E l in
+    let g : drop E d ≡ drop E store = ap (λ (x : List ℕ). drop E x) c ∙ drop-at (take E scratch) (drop E store) E l in
+    let eu : E + (U - E) ≡ U = omega arith in
+    let nu : N + (U - N) ≡ U = omega arith in
+    let b : drop U d ≡ drop U store = sym (drop-drop (U - E) E d ∙ rw eu) ∙ ap (λ (x : List ℕ). drop (U - E) x) g ∙ (drop-drop (U - E) E store ∙ rw eu) in
+    let o : drop U store ≡ replicate (length store - N - (U - N)) 0 = sym (drop-drop (U - N) N store ∙ rw nu) ∙ ap (λ (x : List ℕ). drop (U - N) x) z ∙ drop-zeros (U - N) (length store - N) in
+    let s : U - E + (length store - N - (U - N)) ≡ length store - E = omega arith in
+    k ∙ rw (f, b, o, replicate-append-replicate {A = ℕ} (U - E) (length store - N - (U - N)) 0, s)
+
+-- the first E words cleared, where zeros stand behind them
+pub zeros-all : (E : ℕ) (s s′ : List ℕ) → E ≤ length s → drop E s ≡ replicate (length s - E) 0 → s′ ≡ take 0 s ++ (replicate (E - 0) 0 ++ drop E s) → s′ ≡ replicate (length s) 0
+zeros-all E s s′ h z e =
+    let q : E - 0 + (length s - E) ≡ length s = omega arith in
+    e ∙ rw (z, replicate-append-replicate {A = ℕ} (E - 0) (length s - E) 0, q)
+
+-- what stands behind in a list that was zeros
+pub zeros-kept : (E : ℕ) (s s′ : List ℕ) → length s′ ≡ length s → s ≡ replicate (length s) 0 → drop E s′ ≡ drop E s → drop E s′ ≡ replicate (length s′ - E) 0
+zeros-kept E s s′ l z e = e ∙ ap (λ (x : List ℕ). drop E x) z ∙ drop-zeros E (length s) ∙ rw l
+
+module _ (w limit r : ℕ) (q : Polynomial) (store scratch made store′ scratch′ : List ℕ) (g : Gathered limit q (decoded w r made) r) where
+  -- the step fits: its terms are in the store
+  pub stepped-fits : r ≤ limit → ((n : ℕ) → getD made n 0 < 2 ^ 64) → r * (w + 1) ≤ length made → store′ ≡ take (r * (w + 1)) made ++ replicate (length store - r * (w + 1)) 0
+      → scratch′ ≡ replicate (length scratch) 0 → Stepped w limit q store scratch r store′ scratch′
+  unfolding padded
+  stepped-fits h f room e z =
+      let l : length q ≡ r = ap length (sym (g .fits h)) ∙ length-decoded w r made in
+      let t : leb (length q) limit ≡ true = le-leb (length q) limit (omega arith) in
+      let p : polynomial-words w q ≡ take (r * (w + 1)) made = ap (polynomial-words w) (sym (g .fits h)) ∙ words-decoded w r made f room in
+      let n : length (take (r * (w + 1)) made) ≡ r * (w + 1) = length-take-le (r * (w + 1)) made room in
+      record { counted = rw (t, l); stored = rw (t, p, n) e; cleared = z }
+
+  -- it does not: the store is as it was
+  pub stepped-full : limit < r → store′ ≡ store → scratch′ ≡ replicate (length scratch) 0 → Stepped w limit q store scratch r store′ scratch′
+  stepped-full h e z =
+      let t : leb (length q) limit ≡ false = lt-leb (length q) limit (g .full h) in
+      record { counted = rw t (omega (arith, g .most)); stored = rw t e; cleared = z }
+
+-- v does not occur: the step changes nothing
+pub stepped-same : (w l v x y limit held : ℕ) (store scratch : List ℕ) → Ready w l v x y limit held store scratch → occurs-in v (decoded w held store) ≡ false
+    → Stepped w limit (gather (2 ^ l) (all-replaced (2 ^ l) v x y (decoded w held store))) store scratch held store scratch
+stepped-same w l v x y limit held store scratch h o =
+    let e : gather (2 ^ l) (all-replaced (2 ^ l) v x y (decoded w held store)) ≡ decoded w held store = step-absent (2 ^ l) v x y (2 ^ (64 * w)) (decoded w held store) (pow-pos l) (h .falls) (h .coefficients) o in
+    let t : leb (length (decoded w held store)) limit ≡ true = le-leb _ limit (omega (arith, length-decoded w held store, h .held-most)) in
+    record {
+      counted = rw (e, t) (sym (length-decoded w held store));
+      stored = rw (e, t) (h .kept);
+      cleared = h .clean;
+    }
+
+-- the literals brought apart
+module _ (w l v x y limit held : ℕ) (store scratch : List ℕ) (h : Ready w l v x y limit held store scratch) (p : Pair) (a : Apart x y p) where
+  -- the terms held lie inside the store
+  room : held * (w + 1) ≤ length store
+  room = stride-le held limit w (length store) (h .held-most) (h .store-room)
+
+  -- what the step of their gate asks
+  pub to-replace : Replaced store held w (record { v = v; x = p .x / 2; y = p .y / 2; l = l }) (p .x) (p .y) scratch limit
+  unfolding variable
+  to-replace = record {
+    fit = record {
+      room = room;
+      narrow = h .narrow;
+      v-in = h .v-in;
+      x-in = omega (arith, a .x-low, h .x-low, h .v-in);
+      y-in = omega (arith, a .y-low, h .y-low, h .v-in);
+      l-high = h .l-high;
+      x-is = refl;
+      y-is = refl;
+      x-off = λ e. omega (arith, a .x-low, h .x-low);
+      y-off = λ e. omega (arith, a .y-low, h .y-low);
+      apart = a .apart;
+      falls = h .falls;
+      coefficients = h .coefficients;
+    };
+    store-room = h .store-room;
+    scratch-room = h .scratch-room;
+    behind = rw (length-decoded w held store) at (zeros-behind w store (decoded w held store) (h .kept));
+    clean = h .clean;
+  }
+
+  -- it is the same step
+  pub same-step : gather (2 ^ l) (all-replaced (2 ^ l) v (p .x) (p .y) (decoded w held store)) ≡ gather (2 ^ l) (all-replaced (2 ^ l) v x y (decoded w held store))
+  same-step = sym (step-alike (2 ^ l) v x y (p .x) (p .y) (pow-pos l) (a .alike (2 ^ l)) (decoded w held store) (small-of (2 ^ l) (decoded w held store) (h .coefficients)))
+
+-- a test whose contrary holds
+pub not-so : (b : Bool) → not b ≡ true → b ≡ false
+not-so true h = sym h
+not-so false h = refl
+
+-- a padded list is as long as what was lent
+length-padded : (lent : ℕ) (words : List ℕ) → length words ≤ lent → length (padded lent words) ≡ lent
+unfolding padded
+length-padded lent words h = simp (length-append, length-replicate) (omega arith)
+
+-- after a step that fits, the store is ready for the next gate
+pub ready-next : (w l v x y limit held r : ℕ) (store scratch store′ scratch′ : List ℕ) (v′ x′ y′ : ℕ) → Ready w l v x y limit held store scratch
+    → Stepped w limit (gather (2 ^ l) (all-replaced (2 ^ l) v x y (decoded w held store))) store scratch r store′ scratch′
+    → length (gather (2 ^ l) (all-replaced (2 ^ l) v x y (decoded w held store))) ≤ limit
+    → v′ < 64 * w → variable x′ < v′ → variable y′ < v′ → Ready w l v′ x′ y′ limit r store′ scratch′
+ready-next w l v x y limit held r store scratch store′ scratch′ v′ x′ y′ h s fits hv hx hy =
+    let q : Polynomial = gather (2 ^ l) (all-replaced (2 ^ l) v x y (decoded w held store)) in
+    let t : leb (length q) limit ≡ true = le-leb (length q) limit fits in
+    let n : r ≡ length q = rw t at (s .counted) in
+    let st : store′ ≡ padded (length store) (polynomial-words w q) = rw t at (s .stored) in
+    let words : length (polynomial-words w q) ≡ length q * (w + 1) = length-polynomial-words w q in
+    let ls : length store′ ≡ length store = ap length st ∙ length-padded (length store) (polynomial-words w q) (rw words (stride-le (length q) limit w (length store) fits (h .store-room))) in
+    let lc : length scratch′ ≡ length scratch = ap length (s .cleared) ∙ length-replicate (length scratch) 0 in
+    let below : Below (2 ^ (64 * w)) q = step-below (64 * w) (2 ^ l) v x y (decoded w held store) (omega (arith, h .x-low, h .v-in)) (omega (arith, h .y-low, h .v-in)) (under-of (2 ^ (64 * w)) (2 ^ (64 * w)) (decoded w held store) (omega arith) (h .falls)) in
+    let own : store′ ≡ padded (length store′) (polynomial-words w q) = rw ls st in
+    let d : decoded w r store′ ≡ q = rw n (decoded-stored w store′ q (under-of (2 ^ (64 * w)) (2 ^ (64 * w)) q (omega arith) below) own) in
+    record {
+      narrow = h .narrow;
+      l-high = h .l-high;
+      v-in = hv;
+      x-low = hx;
+      y-low = hy;
+      held-most = rw n fits;
+      store-room = rw ls (h .store-room);
+      scratch-room = rw lc (h .scratch-room);
+      falls = rw d below;
+      coefficients = rw d (gather-coefficients (2 ^ l) (all-replaced (2 ^ l) v x y (decoded w held store)) (pow-pos l));
+      kept = rw d own;
+      clean = rw lc (s .cleared);
+    }

@@ -1,0 +1,212 @@
+-- Laws of a gate's tables: its signs, its masks, and what they are asked for.
+use mathlib.Core.Path.{_≡_, refl, ap, _∙_}
+use mathlib.Core.List.{List, [], _∷_}
+use mathlib.Core.Logic.{_⊎_, inl, inr, ⊎-elim}
+use Prim.Native.Nat.{ℕ, zero, suc, _+_, _-_, _*_, _/_, _%_, _^_, _<_, _≤_}
+use native.Mathlib.Nat.{sub-zero, add-mul, one-mul, eq-or-lt-of-le, mul-le-mul-right}
+use native.Mathlib.Numerals.{add-one-le}
+use native.Mathlib.Omega.{arith}
+use lib.Bits.{bitXor, xor-lt}
+use lib.ListN.{length, getD, take, drop, set, replicate}
+use lib.Pow.{pow-pos, pow-lt}
+use lib.Seq.{getD-set-same, getD-set-other, drop-set-add, drop-set-lt, take-set-le}
+use Rattle.rules.specs.Netlist.{variable, inverted}
+use Rattle.rules.specs.Polynomial.{Polynomial, Coefficients, gather}
+use Rattle.rules.specs.Steps.{all-replaced}
+use Rattle.rules.proofs.Gathered.{under-of}
+use Rattle.words.specs.Numbers.{num, words-at}
+use Rattle.words.specs.Stored.{decoded}
+use Rattle.words.proofs.Numbers.{turned-set}
+use Rattle.words.proofs.Stored.{decoded-at, length-decoded}
+use Rattle.poly.specs.Signs.{factor, sign-product, if-held, sign, sign-at, mask-of, Apart}
+use Rattle.poly.specs.Streams.{mask-at, Lows, Held, Turned, Tables, Merged, stream, streams}
+use Rattle.poly.specs.Stepping.{Fit, Gathered}
+use Rattle.poly.specs.declared.streams.Gate.{Gate}
+use Rattle.poly.proofs.Joins.{step-streams, stream-falls}
+use Rattle.poly.proofs.Replacing.{Small, alike-same, alike-against}
+
+-- literals of two variables, or of a constant, stay
+pub apart-already : (x y : ℕ) → (variable x ≡ variable y → variable y ≡ 0) → Apart x y (record { x = x; y = y })
+apart-already x y h = record { x-low = omega arith; y-low = omega arith; apart = h; alike = λ m u c s l. refl }
+
+-- a literal and its inverse are 0
+pub apart-against : (x y : ℕ) → (variable x ≡ 0 → ⊥) → variable x ≡ variable y → (x ≡ y → ⊥) → Apart x y (record { x = 0; y = 0 })
+unfolding variable
+apart-against x y h e n = record { x-low = omega arith; y-low = omega arith; apart = λ z. refl; alike = λ m. alike-against m x y h e n }
+
+-- a literal twice is itself once
+pub apart-same : (x y : ℕ) → (variable x ≡ 0 → ⊥) → x ≡ y → Apart x y (record { x = x; y = 1 })
+unfolding variable
+apart-same x y h e = record { x-low = omega arith; y-low = omega arith; apart = λ z. refl; alike = λ m. alike-same m x y h e }
+
+-- the sign of one of the first four streams: the product of the literals' signs, where v is held
+pub sign-held : (x y rv rx ry j : ℕ) → j < 4
+    → sign x y rv rx ry j ≡ if-held rv (sign-product (factor (variable x) (inverted x) rx (j % 2)) (factor (variable y) (inverted y) ry (j / 2)))
+unfolding sign
+sign-held x y rv rx ry zero h = refl
+sign-held x y rv rx ry (suc zero) h = refl
+sign-held x y rv rx ry (suc (suc zero)) h = refl
+sign-held x y rv rx ry (suc (suc (suc zero))) h = refl
+sign-held x y rv rx ry (suc (suc (suc (suc j)))) h = absurd (omega arith)
+
+-- one more entry of the table
+pub table-more : (x y i r : ℕ) (l : List ℕ) → i < length l → r ≡ sign-at x y i → ((j : ℕ) → j < i → getD l j 0 ≡ sign-at x y j)
+    → (j : ℕ) → j < i + 1 → getD (set l i r) j 0 ≡ sign-at x y j
+table-more x y i r l h e f j d = ⊎-elim
+    (λ (q : j ≡ i). rw (q, getD-set-same l i r 0 h) e)
+    (λ (q : j < i). rw (getD-set-other l i j r 0 (λ z. omega arith)) (f j q))
+    (eq-or-lt-of-le {n = j} {m = i} (omega arith))
+
+-- the masks, one word of the j-th changed
+module _ (m : List ℕ) (j w v x : ℕ) (h : j * w + w ≤ length m) (l : v < 64 * w) where
+  -- those below it stay
+  below : (i : ℕ) → i < j → words-at (set m (j * w + v / 64) x) (i * w) w ≡ words-at m (i * w) w
+  below i d =
+      let s : (i + 1) * w ≤ j * w = mul-le-mul-right w (add-one-le d) in
+      let t : (i + 1) * w ≡ i * w + w = add-mul i 1 w ∙ ap (λ (z : ℕ). i * w + z) (one-mul w) in
+      let p : j * w + v / 64 ≡ i * w + (j * w + v / 64 - i * w) = omega arith in
+      rw (p, drop-set-add (i * w) m (j * w + v / 64 - i * w) x, take-set-le w (drop (i * w) m) (j * w + v / 64 - i * w) x (omega arith))
+
+  -- and those above it
+  over : (i : ℕ) → j < i → words-at (set m (j * w + v / 64) x) (i * w) w ≡ words-at m (i * w) w
+  over i d =
+      let s : (j + 1) * w ≤ i * w = mul-le-mul-right w (add-one-le d) in
+      let t : (j + 1) * w ≡ j * w + w = add-mul j 1 w ∙ ap (λ (z : ℕ). j * w + z) (one-mul w) in
+      rw (drop-set-lt (i * w) m (j * w + v / 64) x (omega arith))
+
+  -- so the other masks stay
+  others-stay : (i : ℕ) → (i ≡ j → ⊥) → mask-at w (set m (j * w + v / 64) x) i ≡ mask-at w m i
+  unfolding mask-at
+  others-stay i n = ap num (⊎-elim (λ (d : i ≤ j). below i (omega (arith, n))) (λ (d : j < i). over i d) (less i j))
+    where
+      less : (a b : ℕ) → (a ≤ b) ⊎ (b < a)
+      less zero b = inl (omega arith)
+      less (suc a) zero = inr (omega arith)
+      less (suc a) (suc b) = ⊎-elim (λ (q : a ≤ b). inl (omega arith)) (λ (q : b < a). inr (omega arith)) (less a b)
+
+-- a variable turned in the j-th mask
+pub mask-turned : (m m′ : List ℕ) (j w v : ℕ) → j * w + w ≤ length m → ((n : ℕ) → getD m n 0 < 2 ^ 64) → v < 64 * w
+    → m′ ≡ set m (j * w + v / 64) (bitXor (getD m (j * w + v / 64) 0) (2 ^ (v % 64))) → Turned w j v m m′
+unfolding mask-at
+mask-turned m m′ j w v h f l e = record {
+  here = rw e (turned-set m (j * w) w v h f l);
+  there = λ i n. rw e (others-stay m j w v (bitXor (getD m (j * w + v / 64) 0) (2 ^ (v % 64))) h l i n);
+}
+
+-- the masks of a gate, one turn after the other
+pub masks-made : (w v x y : ℕ) (m0 m1 m2 m3 m4 m5 m6 m7 m8 : List ℕ) → ((j : ℕ) → j < 5 → mask-at w m0 j ≡ 0)
+    → Turned w 0 v m0 m1 → Turned w 1 v m1 m2 → Turned w 1 x m2 m3 → Turned w 2 v m3 m4 → Turned w 2 y m4 m5 → Turned w 3 v m5 m6 → Turned w 3 y m6 m7 → Turned w 3 x m7 m8
+    → (j : ℕ) → j < 5 → mask-at w m8 j ≡ mask-of v x y j
+unfolding mask-of
+masks-made w v x y m0 m1 m2 m3 m4 m5 m6 m7 m8 z t1 t2 t3 t4 t5 t6 t7 t8 zero l =
+    t8 .there 0 (λ e. omega arith) ∙ t7 .there 0 (λ e. omega arith) ∙ t6 .there 0 (λ e. omega arith) ∙ t5 .there 0 (λ e. omega arith)
+    ∙ t4 .there 0 (λ e. omega arith) ∙ t3 .there 0 (λ e. omega arith) ∙ t2 .there 0 (λ e. omega arith) ∙ t1 .here
+    ∙ ap (λ (n : ℕ). bitXor n (2 ^ v)) (z 0 l)
+masks-made w v x y m0 m1 m2 m3 m4 m5 m6 m7 m8 z t1 t2 t3 t4 t5 t6 t7 t8 (suc zero) l =
+    t8 .there 1 (λ e. omega arith) ∙ t7 .there 1 (λ e. omega arith) ∙ t6 .there 1 (λ e. omega arith) ∙ t5 .there 1 (λ e. omega arith)
+    ∙ t4 .there 1 (λ e. omega arith) ∙ t3 .here
+    ∙ ap (λ (n : ℕ). bitXor n (2 ^ x)) (t2 .here ∙ ap (λ (n : ℕ). bitXor n (2 ^ v)) (t1 .there 1 (λ e. omega arith) ∙ z 1 l))
+masks-made w v x y m0 m1 m2 m3 m4 m5 m6 m7 m8 z t1 t2 t3 t4 t5 t6 t7 t8 (suc (suc zero)) l =
+    t8 .there 2 (λ e. omega arith) ∙ t7 .there 2 (λ e. omega arith) ∙ t6 .there 2 (λ e. omega arith) ∙ t5 .here
+    ∙ ap (λ (n : ℕ). bitXor n (2 ^ y)) (t4 .here ∙ ap (λ (n : ℕ). bitXor n (2 ^ v)) (t3 .there 2 (λ e. omega arith) ∙ t2 .there 2 (λ e. omega arith) ∙ t1 .there 2 (λ e. omega arith) ∙ z 2 l))
+masks-made w v x y m0 m1 m2 m3 m4 m5 m6 m7 m8 z t1 t2 t3 t4 t5 t6 t7 t8 (suc (suc (suc zero))) l =
+    t8 .here
+    ∙ ap (λ (n : ℕ). bitXor n (2 ^ x)) (t7 .here ∙ ap (λ (n : ℕ). bitXor n (2 ^ y)) (t6 .here ∙ ap (λ (n : ℕ). bitXor n (2 ^ v))
+    (t5 .there 3 (λ e. omega arith) ∙ t4 .there 3 (λ e. omega arith) ∙ t3 .there 3 (λ e. omega arith) ∙ t2 .there 3 (λ e. omega arith) ∙ t1 .there 3 (λ e. omega arith) ∙ z 3 l)))
+masks-made w v x y m0 m1 m2 m3 m4 m5 m6 m7 m8 z t1 t2 t3 t4 t5 t6 t7 t8 (suc (suc (suc (suc zero)))) l =
+    t8 .there 4 (λ e. omega arith) ∙ t7 .there 4 (λ e. omega arith) ∙ t6 .there 4 (λ e. omega arith) ∙ t5 .there 4 (λ e. omega arith)
+    ∙ t4 .there 4 (λ e. omega arith) ∙ t3 .there 4 (λ e. omega arith) ∙ t2 .there 4 (λ e. omega arith) ∙ t1 .there 4 (λ e. omega arith) ∙ z 4 l
+masks-made w v x y m0 m1 m2 m3 m4 m5 m6 m7 m8 z t1 t2 t3 t4 t5 t6 t7 t8 (suc (suc (suc (suc (suc j))))) l = absurd (omega arith)
+
+-- words of zeros are 0
+num-zeros : (n : ℕ) → num (replicate n 0) ≡ 0
+unfolding num
+num-zeros zero = refl
+num-zeros (suc n) = rw (num-zeros n)
+
+-- zeros, but for the first
+pub drop-zeros : (i n : ℕ) → drop {A = ℕ} i (replicate n 0) ≡ replicate (n - i) 0
+drop-zeros zero n = rw (sub-zero)
+drop-zeros (suc i) zero = let e : 0 - suc i ≡ 0 = omega arith in rw e
+drop-zeros (suc i) (suc n) = let e : suc n - suc i ≡ n - i = omega arith in rw e (drop-zeros i n)
+
+-- zeros of zeros
+take-zeros : (i n : ℕ) → (k : ℕ) × (take {A = ℕ} i (replicate n 0) ≡ replicate k 0)
+take-zeros zero n = (0, refl)
+take-zeros (suc i) zero = (0, refl)
+take-zeros (suc i) (suc n) = let r = take-zeros i n in (suc (r .0), ap (λ (l : List ℕ). 0 ∷ l) (r .1))
+
+-- a mask of zeros changes nothing
+pub mask-none : (w n j : ℕ) → mask-at w (replicate n 0) j ≡ 0
+unfolding mask-at
+mask-none w n j = let r = take-zeros w (n - j * w) in rw (drop-zeros (j * w) n, r .1) (num-zeros (r .0))
+
+-- a coefficient of a polynomial
+coefficient-in : (m i : ℕ) (p : Polynomial) → Coefficients m p → i < length p → (0 < getD p i (0, 0) .0) × (getD p i (0, 0) .0 < m)
+coefficient-in m i [] h l = absurd (omega arith)
+coefficient-in m zero (x ∷ p) h l = (h .0, h .1)
+coefficient-in m (suc i) (x ∷ p) h l = coefficient-in m i p (h .2) (omega arith)
+
+-- coefficients below m are at most m
+pub small-of : (m : ℕ) (p : Polynomial) → Coefficients m p → Small m p
+small-of m [] h = tt
+small-of m (x ∷ p) h = (omega (arith, h .1), small-of m p (h .2))
+
+-- a mask is below a power of two that is above its variables
+mask-lt : (e v x y j : ℕ) → v < e → x < e → y < e → mask-of v x y j < 2 ^ e
+unfolding mask-of
+mask-lt e v x y zero hv hx hy = pow-lt {i = v} {j = e} hv
+mask-lt e v x y (suc zero) hv hx hy = xor-lt e (2 ^ v) (2 ^ x) (pow-lt {i = v} {j = e} hv) (pow-lt {i = x} {j = e} hx)
+mask-lt e v x y (suc (suc zero)) hv hx hy = xor-lt e (2 ^ v) (2 ^ y) (pow-lt {i = v} {j = e} hv) (pow-lt {i = y} {j = e} hy)
+mask-lt e v x y (suc (suc (suc zero))) hv hx hy = xor-lt e (bitXor (2 ^ v) (2 ^ y)) (2 ^ x) (xor-lt e (2 ^ v) (2 ^ y) (pow-lt {i = v} {j = e} hv) (pow-lt {i = y} {j = e} hy)) (pow-lt {i = x} {j = e} hx)
+mask-lt e v x y (suc (suc (suc (suc j)))) hv hx hy = pow-pos e
+
+-- the tables of a gate that fits
+module _ (store : List ℕ) (n w : ℕ) (g : Gate) (x y : ℕ) (r : Fit store n w g x y) (signs masks : List ℕ) (ls : length signs ≡ 40)
+    (hs : (i : ℕ) → i < 40 → getD signs i 0 ≡ sign-at x y i) (hm : (j : ℕ) → j < 5 → mask-at w masks j ≡ mask-of (g .v) (g .x) (g .y) j) where
+  -- what the streams ask
+  pub held : Held store n w g signs
+  held = record {
+    room = r .room;
+    narrow = r .narrow;
+    v-in = r .v-in;
+    x-in = r .x-in;
+    y-in = r .y-in;
+    l-high = r .l-high;
+    table = ls;
+    some = λ i l. rw (decoded-at w n i store l) at (coefficient-in (2 ^ g .l) i (decoded w n store) (r .coefficients) (omega (arith, length-decoded w n store)) .0);
+    small = λ i l. rw (decoded-at w n i store l) at (coefficient-in (2 ^ g .l) i (decoded w n store) (r .coefficients) (omega (arith, length-decoded w n store)) .1);
+  }
+
+  -- the tables are those of the gate
+  tables : Tables g x y signs (mask-at w masks)
+  unfolding sign-at
+  tables = record {
+    x-is = r .x-is;
+    y-is = r .y-is;
+    x-off = r .x-off;
+    y-off = r .y-off;
+    apart = r .apart;
+    signed = λ rv rx ry j a b c d.
+        let e1 : ((rv + 2 * rx + 4 * ry) * 5 + j) / 5 % 2 ≡ rv = omega arith in
+        let e2 : ((rv + 2 * rx + 4 * ry) * 5 + j) / 10 % 2 ≡ rx = omega arith in
+        let e3 : ((rv + 2 * rx + 4 * ry) * 5 + j) / 20 ≡ ry = omega arith in
+        let e4 : ((rv + 2 * rx + 4 * ry) * 5 + j) % 5 ≡ j = omega arith in
+        hs ((rv + 2 * rx + 4 * ry) * 5 + j) (omega arith) ∙ rw (e1, e2, e3, e4);
+    masked = hm;
+  }
+
+  -- every stream falls
+  pub lows : Lows (2 ^ (64 * w)) 5 (λ j. stream g signs (mask-at w masks) j (decoded w n store))
+  lows j l =
+      stream-falls g x y signs (mask-at w masks) tables (64 * w) j l (decoded w n store) (2 ^ (64 * w)) (r .falls)
+      (under-of (2 ^ (64 * w)) (2 ^ (64 * w)) (decoded w n store) (omega arith) (r .falls))
+      (rw (hm j l) (mask-lt (64 * w) (g .v) (g .x) (g .y) j (r .v-in) (r .x-in) (r .y-in)))
+
+  -- the streams gathered are the step
+  pub gathered : (limit o : ℕ) (out : Polynomial) → Merged (2 ^ g .l) limit (streams g signs (mask-at w masks) 5 (decoded w n store)) out o
+      → Gathered limit (gather (2 ^ g .l) (all-replaced (2 ^ g .l) (g .v) x y (decoded w n store))) out o
+  gathered limit o out h =
+      let e : gather (2 ^ g .l) (streams g signs (mask-at w masks) 5 (decoded w n store)) ≡ gather (2 ^ g .l) (all-replaced (2 ^ g .l) (g .v) x y (decoded w n store)) =
+      step-streams g x y signs (mask-at w masks) tables (decoded w n store) (small-of (2 ^ g .l) (decoded w n store) (r .coefficients)) in
+      record { most = h .most; fits = λ l. h .fits l ∙ e; full = λ l. rw e at (h .full l) }

@@ -1,0 +1,102 @@
+use mathlib.Core.Path.{_≡_, refl}
+use Prim.Native.Nat.{_+_, _*_, _^_}
+use lib.ListN.{length}
+use Rattle.rules.specs.Polynomial.{gather}
+use Rattle.rules.specs.Steps.{all-replaced}
+use Rattle.words.specs.Stored.{decoded}
+use Rattle.words.proofs.Stored.{stride-le}
+use Rattle.poly.proofs.Settled.{zeros-kept, zeros-all, stepped-fits, stepped-full}
+use borrow.Author.Needs.{needs}
+use Rattle.poly.proofs.step.replace.Statement.{statement}
+use Rattle.poly.proofs.step.replace.Tie as tie
+use Rattle.poly.proofs.step.replace.Reads as reads
+use Rattle.poly.proofs.step.replace.Lts as lts
+use Rattle.poly.proofs.step.gathered.Reads as gathered-reads
+use Rattle.poly.proofs.step.settle.Reads as settle-reads
+use Rattle.words.proofs.stretches.clear.Reads as clear-reads
+
+-- src/step.rt:95:9
+gathered-requires : tie.Need-gathered-requires
+gathered-requires c κs = search needs
+
+-- src/step.rt:97:54
+add-clear : tie.Need-add-clear
+add-clear c = search needs
+
+-- src/step.rt:97:45
+mul-clear : tie.Need-mul-clear
+mul-clear c = search needs
+
+-- src/step.rt:97:9
+clear-requires : tie.Need-clear-requires
+clear-requires c κs = search needs
+
+-- src/step.rt:98:9
+same-length : tie.Need-same-length
+same-length c = search needs
+
+-- src/step.rt:98:9
+same-length-2 : tie.Need-same-length-2
+same-length-2 c = search needs
+
+-- src/step.rt:98:9
+returns : tie.Need-returns
+returns c =
+    let a = c .before .before .before .before .before .before .before .before .before .before .before .before .args in
+    let p = c .before .before .before .before .before .before .before .before .before .before .before .before .pre in
+    let g = c .before .before .before .before .before .before .before .gathered in
+    let k : length (g .last .1 .1 .1 .1 .1 .1 .0) ≡ length (a .scratch .now) = g .kept .1 .1 .1 .1 .1 .1 .0 in
+    let z = zeros-kept (a .limit * (a .w + 1)) (a .scratch .now) (g .last .1 .1 .1 .1 .1 .1 .0) k (p .clean) (g .ensures .1 .many (c .before .before .before .before .if1 .taken)) in
+    stepped-full (a .w) (a .limit) (g .result) (gather (2 ^ a .g .l) (all-replaced (2 ^ a .g .l) (a .g .v) (a .x) (a .y) (decoded (a .w) (a .n) (a .store .now)))) (a .store .now) (a .scratch .now) (g .last .1 .1 .1 .1 .1 .1 .0) (a .store .now) (c .before .before .clear .last .0) (g .ensures .0) (c .before .before .before .before .if1 .taken) refl
+    (rw k at (zeros-all (a .limit * (a .w + 1)) (g .last .1 .1 .1 .1 .1 .1 .0) (c .before .before .clear .last .0) (rw k (p .scratch-room)) z (c .before .before .clear .ensures)))
+
+-- src/step.rt:100:5
+settle-requires : tie.Need-settle-requires
+settle-requires c κs =
+    let a = c .before .before .before .before .before .before .before .before .before .before .args in
+    let p = c .before .before .before .before .before .before .before .before .before .before .pre in
+    let g = c .before .before .before .before .before .gathered in
+    let l = c .before .before .if1 .left in
+    let k : length (g .last .1 .1 .1 .1 .1 .1 .0) ≡ length (a .scratch .now) = g .kept .1 .1 .1 .1 .1 .1 .0 in (
+      p .fit .narrow,
+      p .fit .room,
+      stride-le (g .result) (a .limit) (a .w) (length (a .store .now)) l (p .store-room),
+      rw k (stride-le (g .result) (a .limit) (a .w) (length (a .scratch .now)) l (p .scratch-room)),
+      p .behind,
+      zeros-kept (g .result * (a .w + 1)) (a .scratch .now) (g .last .1 .1 .1 .1 .1 .1 .0) k (p .clean) (g .ensures .1 .few l),
+    )
+
+-- src/step.rt:82:1
+same-length-3 : tie.Need-same-length-3
+same-length-3 c = search needs
+
+-- src/step.rt:82:1
+same-length-4 : tie.Need-same-length-4
+same-length-4 c = search needs
+
+-- src/step.rt:82:1
+returns-2 : tie.Need-returns-2
+returns-2 c =
+    let a = c .before .before .before .before .before .before .before .before .before .before .before .before .before .before .before .args in
+    let p = c .before .before .before .before .before .before .before .before .before .before .before .before .before .before .before .pre in
+    let g = c .before .before .before .before .before .before .before .before .before .before .gathered in
+    let l = c .before .before .before .before .before .before .before .if1 .left in
+    let k : length (g .last .1 .1 .1 .1 .1 .1 .0) ≡ length (a .scratch .now) = g .kept .1 .1 .1 .1 .1 .1 .0 in
+    stepped-fits (a .w) (a .limit) (g .result) (gather (2 ^ a .g .l) (all-replaced (2 ^ a .g .l) (a .g .v) (a .x) (a .y) (decoded (a .w) (a .n) (a .store .now)))) (a .store .now) (a .scratch .now) (g .last .1 .1 .1 .1 .1 .1 .0) (c .before .before .before .before .settle .last .0) (c .before .before .before .before .settle .last .1 .1 .1 .0) (g .ensures .0) l (λ n. c .before .before .before .before .before .before .before .before .slice-known3 .given n .fits) (rw k (stride-le (g .result) (a .limit) (a .w) (length (a .scratch .now)) l (p .scratch-room)))
+    (c .before .before .before .before .settle .ensures .0) (rw k at (c .before .before .before .before .settle .ensures .1))
+
+pub replace-spec : {M : Type 1} → statement M
+replace-spec =
+    tie.close
+    (tie.spec
+    gathered-requires
+    add-clear
+    mul-clear
+    clear-requires
+    same-length
+    same-length-2
+    returns
+    settle-requires
+    same-length-3
+    same-length-4
+    returns-2)

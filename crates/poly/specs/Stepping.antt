@@ -1,0 +1,71 @@
+-- A step in lent words: what it asks, and what it leaves.
+use mathlib.Core.Path.{_≡_}
+use mathlib.Core.Bool.{Bool, true, false, cond}
+use mathlib.Core.List.{List, [], _∷_}
+use Prim.Native.Nat.{ℕ, _+_, _-_, _*_, _^_, _<_, _≤_}
+use lib.Dec.{eqb, leb}
+use lib.ListN.{length, drop, replicate}
+use Rattle.rules.specs.Judging.{polynomial-words, padded}
+use Rattle.rules.specs.Netlist.{variable}
+use Rattle.rules.specs.Polynomial.{Polynomial, Below, Coefficients}
+use Rattle.rules.specs.Values.{bit}
+use Rattle.words.specs.Stored.{decoded}
+use Rattle.poly.specs.declared.streams.Gate.{Gate}
+
+-- v is in some term
+unfoldable pub occurs-in : ℕ → Polynomial → Bool
+occurs-in v [] = false
+occurs-in v (t ∷ p) = cond (eqb (bit (t .1) v) 1) true (occurs-in v p)
+
+-- a polynomial of n terms is held, and the literals x and y are over the gate's variables: two, neither of them v, or 0
+pub record Fit (store : List ℕ) (n w : ℕ) (g : Gate) (x y : ℕ) : Type 0 where
+  pub room : n * (w + 1) ≤ length store
+  pub narrow : w ≤ 16
+  pub v-in : g .v < 64 * w
+  pub x-in : g .x < 64 * w
+  pub y-in : g .y < 64 * w
+  pub l-high : g .l ≤ 64
+  pub x-is : g .x ≡ variable x
+  pub y-is : g .y ≡ variable y
+  pub x-off : g .x ≡ g .v → ⊥
+  pub y-off : g .y ≡ g .v → ⊥
+  pub apart : g .x ≡ g .y → g .y ≡ 0
+  pub falls : Below (2 ^ (64 * w)) (decoded w n store)
+  pub coefficients : Coefficients (2 ^ g .l) (decoded w n store)
+
+-- the polynomial q if it has at most `limit` terms; limit + 1 if not
+pub record Gathered (limit : ℕ) (q out : Polynomial) (r : ℕ) : Type 0 where
+  pub most : r ≤ limit + 1
+  pub fits : r ≤ limit → out ≡ q
+  pub full : limit < r → limit < length q
+
+-- and there is room for `limit` terms in store and scratch, with zeros in both wherever no term is
+pub record Replaced (store : List ℕ) (n w : ℕ) (g : Gate) (x y : ℕ) (scratch : List ℕ) (limit : ℕ) : Type 0 where
+  pub fit : Fit store n w g x y
+  pub store-room : limit * (w + 1) ≤ length store
+  pub scratch-room : limit * (w + 1) ≤ length scratch
+  pub behind : drop (n * (w + 1)) store ≡ replicate (length store - n * (w + 1)) 0
+  pub clean : scratch ≡ replicate (length scratch) 0
+
+-- what a step asks: a polynomial of `held` terms over the variables below 64 w, coefficients of l bits, in a store and scratch
+-- with room for `limit` terms and zeros wherever no term is; a gate that reads lower variables
+pub record Ready (w l v x y limit held : ℕ) (store scratch : List ℕ) : Type 0 where
+  pub narrow : w ≤ 16
+  pub l-high : l ≤ 64
+  pub v-in : v < 64 * w
+  pub x-low : variable x < v
+  pub y-low : variable y < v
+  pub held-most : held ≤ limit
+  pub store-room : limit * (w + 1) ≤ length store
+  pub scratch-room : limit * (w + 1) ≤ length scratch
+  pub falls : Below (2 ^ (64 * w)) (decoded w held store)
+  pub coefficients : Coefficients (2 ^ l) (decoded w held store)
+  pub kept : store ≡ padded (length store) (polynomial-words w (decoded w held store))
+  pub clean : scratch ≡ replicate (length scratch) 0
+
+-- what a step to the polynomial q leaves: where q has at most `limit` terms, their number, and the words of q in the store; else
+-- limit + 1, and the store as it was. Scratch is zeros.
+pub record Stepped (w limit : ℕ) (q : Polynomial) (store scratch : List ℕ) (r : ℕ) (store′ scratch′ : List ℕ) : Type 0 where
+  pub counted : r ≡ cond (leb (length q) limit) (length q) (limit + 1)
+  pub stored : store′ ≡ cond (leb (length q) limit) (padded (length store) (polynomial-words w q)) store
+  pub cleared : scratch′ ≡ replicate (length scratch) 0

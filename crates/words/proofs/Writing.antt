@@ -1,0 +1,65 @@
+-- Laws of the loops that write words.
+use mathlib.Core.Path.{_≡_, ap, sym, _∙_}
+use mathlib.Core.List.{List, _∷_, _++_, append-assoc}
+use Prim.Native.Nat.{ℕ, suc, _+_, _-_, _<_, _≤_, _^_, _%_}
+use native.Mathlib.Nat.{sub-self, mod-add-mod, add-mod-right}
+use native.Mathlib.Numerals.{add-one}
+use native.Mathlib.Omega.{arith}
+use lib.Bits.{bitXor}
+use lib.ListN.{length, getD, take, drop, set, replicate, length-replicate, replicate-append-replicate, length-take, length-append, take-append-drop}
+use lib.Pow.{mod-mod-pow}
+use lib.Seq.{drop-cons, set-at, paste, paste-suc, take-all, take-suc, length-take-le, take-suc-set, drop-set-lt}
+use Rattle.words.specs.Numbers.{words-at, masked}
+use Rattle.words.proofs.Numbers.{length-masked, getD-masked}
+
+-- one more word under its mask written
+pub write-more : (d e s m : List ℕ) (i a w t k : ℕ) → i + w ≤ length s → a + w ≤ length m → t + w ≤ length d → k < w
+    → e ≡ paste d t (masked (words-at s i w) (words-at m a w)) k
+    → set e (t + k) (bitXor (getD s (i + k) 0) (getD m (a + k) 0)) ≡ paste d t (masked (words-at s i w) (words-at m a w)) (k + 1)
+write-more d e s m i a w t k hs hm hd l h =
+    rw (h, ← getD-masked s m i a w hs hm k l, add-one k) (paste-suc d t (masked (words-at s i w) (words-at m a w)) k 0 (omega arith) (omega (arith, length-masked s m i a w hs hm)))
+
+-- all of them written
+pub write-all : (d s m : List ℕ) (i a w t : ℕ) → i + w ≤ length s → a + w ≤ length m
+    → paste d t (masked (words-at s i w) (words-at m a w)) w ≡ take t d ++ masked (words-at s i w) (words-at m a w) ++ drop (t + w) d
+write-all d s m i a w t hs hm = rw (take-all w (masked (words-at s i w) (words-at m a w)) (omega (arith, length-masked s m i a w hs hm)))
+
+-- a term's words after both writes
+pub write-term : (d e N : List ℕ) (t c w : ℕ) → t < length d → e ≡ take (t + 1) (set d t c) ++ N ++ drop (t + 1 + w) (set d t c)
+    → e ≡ take t d ++ ((c ∷ N) ++ drop (t + (w + 1)) d)
+write-term d e N t c w h q =
+    let f : t + 1 + w ≡ t + (w + 1) = omega arith in
+    q ∙ ap (λ (x : List ℕ). x ++ N ++ drop (t + 1 + w) (set d t c)) (ap (λ (k : ℕ). take k (set d t c)) (add-one t) ∙ take-suc-set d t c h)
+    ∙ rw (append-assoc, append-assoc, drop-set-lt (t + 1 + w) d t c (omega arith), f)
+
+-- one more word copied
+pub copy-more : (d e s : List ℕ) (k : ℕ) → k < length d → k < length s → e ≡ take k s ++ drop k d
+    → set e k (getD s k 0) ≡ take (k + 1) s ++ drop (k + 1) d
+copy-more d e s k hd hs h =
+    rw (h, drop-cons d k 0 hd, set-at (take k s) _ (drop (suc k) d) (getD s k 0) k (length-take-le k s (omega arith)), add-one k, take-suc s k 0 hs, append-assoc)
+
+-- no word cleared yet
+pub clear-none : (d : List ℕ) (f : ℕ) → d ≡ take f d ++ (replicate (f - f) 0 ++ drop f d)
+clear-none d f = rw sub-self (sym (take-append-drop f d))
+
+-- one more word cleared
+pub clear-more : (d e : List ℕ) (f k : ℕ) → f ≤ k → k < length d → e ≡ take f d ++ (replicate (k - f) 0 ++ drop k d)
+    → set e k 0 ≡ take f d ++ (replicate (k + 1 - f) 0 ++ drop (k + 1) d)
+clear-more d e f k h l r =
+    let n : k + 1 - f ≡ (k - f) + 1 = omega arith in
+    let len : length (take f d ++ replicate (k - f) 0) ≡ k =
+    simp (length-append, length-replicate, length-take) (omega arith) in
+    rw (r, n, drop-cons d k 0 l, ← append-assoc, set-at (take f d ++ replicate (k - f) 0) _ _ 0 k len, ← replicate-append-replicate {A = ℕ} (k - f) 1 0, add-one k, append-assoc, append-assoc)
+
+-- dropping to l bits after the wrap at 64
+pub drop-wrap : (n l : ℕ) → l ≤ 64 → n % 2 ^ 64 % 2 ^ l ≡ n % 2 ^ l
+drop-wrap n l h =
+    let e : 64 - l + l ≡ 64 = omega arith in
+    ap (λ (x : ℕ). n % 2 ^ x % 2 ^ l) (sym e) ∙ mod-mod-pow n (64 - l) l
+
+-- a difference that wraps at 64, dropped to l bits
+pub wrap-back : (r a b l : ℕ) → l ≤ 64 → b ≤ 2 ^ l → (r + b) % 2 ^ 64 ≡ a → r % 2 ^ l ≡ (a + (2 ^ l - b)) % 2 ^ l
+wrap-back r a b l h le e =
+    let f : a % 2 ^ l ≡ (r + b) % 2 ^ l = ap (λ (x : ℕ). x % 2 ^ l) (sym e) ∙ drop-wrap (r + b) l h in
+    let g : r + b + (2 ^ l - b) ≡ r + 2 ^ l = omega arith in
+    sym (rw (← mod-add-mod a (2 ^ l) (2 ^ l - b), f, mod-add-mod (r + b) (2 ^ l) (2 ^ l - b), g) (add-mod-right r (2 ^ l)))

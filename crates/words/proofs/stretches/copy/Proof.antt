@@ -1,0 +1,81 @@
+use mathlib.Core.Path.{_≡_, refl}
+use Prim.Native.Nat.{_-_, _≤_}
+use native.Mathlib.Omega.{arith}
+use lib.ListN.{length, take, drop, length-set}
+use mathlib.Core.List.{_++_}
+use Rattle.words.proofs.Writing.{copy-more}
+use Rattle.words.proofs.stretches.copy.Statement.{statement}
+use Rattle.words.proofs.stretches.copy.Tie as tie
+use Rattle.words.proofs.stretches.copy.Reads as reads
+use Rattle.words.proofs.stretches.copy.Lts as lts
+
+abbrev Inv-loop : tie.InvT-loop
+Inv-loop words target₀ n k₀ target k =
+    (k ≤ n) × (length target ≡ length target₀) × (target ≡ take k words ++ drop k target₀)
+
+abbrev μ-loop : tie.MeasureT-loop
+μ-loop words target₀ n k₀ target k =
+    n - k
+
+-- src/stretches.rt:13:5
+loop-holds : tie.Need-loop-holds Inv-loop μ-loop
+loop-holds c =
+    (omega arith, refl, refl)
+
+-- src/stretches.rt:14:21
+mul-target : tie.Need-mul-target Inv-loop μ-loop
+mul-target c = omega arith
+
+-- src/stretches.rt:14:21
+shared-slice-read-target : tie.Need-shared-slice-read-target Inv-loop μ-loop
+shared-slice-read-target c = omega arith
+
+-- src/stretches.rt:14:9
+mul-target-2 : tie.Need-mul-target-2 Inv-loop μ-loop
+mul-target-2 c = omega arith
+
+-- src/stretches.rt:14:9
+slice-write-target : tie.Need-slice-write-target Inv-loop μ-loop
+slice-write-target c = omega arith
+
+-- src/stretches.rt:15:9
+add-k : tie.Need-add-k Inv-loop μ-loop
+add-k c = omega arith
+
+-- src/stretches.rt:13:5
+loop-less : tie.Need-loop-less Inv-loop μ-loop
+loop-less c = omega arith
+
+-- src/stretches.rt:13:5
+loop-again : tie.Need-loop-again Inv-loop μ-loop
+loop-again c =
+    let l = c .before .before .loop in
+    let a = c .before .before .before .args in
+    (omega arith, simp length-set (l .inv .1), copy-more (a .target .now) (l .target) (a .words .now) (l .k) (omega arith) (omega arith) (l .inv .2))
+
+-- src/stretches.rt:8:1
+same-length : tie.Need-same-length Inv-loop μ-loop
+same-length c = omega arith
+
+-- src/stretches.rt:8:1
+returns : tie.Need-returns Inv-loop μ-loop
+returns c =
+    let e : c .before .loop .k ≡ c .before .before .args .n = omega arith in
+    rw e at (c .before .loop .inv .2)
+
+pub copy-spec : {M : Type 1} → statement M
+copy-spec =
+    tie.close
+    (tie.spec
+    Inv-loop
+    μ-loop
+    loop-holds
+    mul-target
+    shared-slice-read-target
+    mul-target-2
+    slice-write-target
+    add-k
+    loop-less
+    loop-again
+    same-length
+    returns)

@@ -1,0 +1,3 @@
+-- The specifications of words.
+pub mod Numbers
+pub mod Stored

@@ -21,6 +21,7 @@ pub mod Operands
 pub mod Published
 pub mod StartValue
 pub mod StepKeeps
+pub mod Idle
 pub mod StepShape
 pub mod Absent
 pub mod Occurs

@@ -3,12 +3,13 @@ use mathlib.Core.Path.{_≡_}
 use mathlib.Core.Bool.{true}
 use mathlib.Core.List.{List, [], _∷_, _++_}
 use Prim.Native.Nat.{ℕ, zero, suc, _+_, _-_, _*_, _/_, _%_, _^_, _<_, _≤_}
+use lib.ListN.{length, getD}
 use Rattle.rules.specs.Each.{joined}
 use Rattle.rules.specs.Netlist.{output, counts-right, table-sound}
-use Rattle.rules.specs.Values.{width, values, shown}
+use Rattle.rules.specs.Values.{width, bit, values, shown}
 use Rattle.rules.specs.Product.{Kind, plain, signed, truncated, outputs-of, product}
-use Rattle.rules.specs.Polynomial.{Term, Polynomial, Under, Coefficients, gather, times-literal}
-use Rattle.rules.specs.Steps.{modulus, start, step}
+use Rattle.rules.specs.Polynomial.{Term, Polynomial, Below, Under, Coefficients, gather, times-literal}
+use Rattle.rules.specs.Steps.{modulus, start, all-replaced, step}
 use Rattle.rules.specs.declared.counts.Counts.{Counts}
 
 -- x where the digit is 1, else 1
@@ -82,3 +83,13 @@ abbrev pub Published : Type 0
 Published =
     (kind : Kind) (c : Counts) (table : List ℕ) → counts-right c ≡ true → c .o ≡ outputs-of kind (width c)
     → gather (modulus kind c) (specification kind (modulus kind c) (width c) table) ≡ start kind c table
+
+-- one step makes at most four terms of each term, before gathering
+abbrev pub FourTerms : Type 0
+FourTerms = (m v x y : ℕ) (p : Polynomial) → length (all-replaced m v x y p) ≤ 4 * length p
+
+-- if v does not occur, a step of it changes nothing
+abbrev pub StepIdle : Type 0
+StepIdle =
+    (m : ℕ) (c : Counts) (table : List ℕ) (v b : ℕ) (p : Polynomial) → 0 < m → Below b p → Coefficients m p
+    → ((i : ℕ) → i < length p → bit (getD p i (0, 0) .1) v ≡ 0) → step m c table v p ≡ p

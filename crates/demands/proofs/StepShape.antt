@@ -54,11 +54,11 @@ gather-shape kind c p h =
     }
 
 -- a variable up to M put in leaves a set with only such
-up-to-joins : (c : Counts) (v : ℕ) → v ≤ c .m → Joins (UpTo c) v
+pub up-to-joins : (c : Counts) (v : ℕ) → v ≤ c .m → Joins (UpTo c) v
 up-to-joins c v l above s h = with-variable-under (c .m + 1) s v (omega arith) h
 
 -- what an order names that passes the test is a gate
-gate-here : (c : Counts) (order : List ℕ) → every (is-gate c) order ≡ true → (j : ℕ) → j < length order
+pub gate-here : (c : Counts) (order : List ℕ) → every (is-gate c) order ≡ true → (j : ℕ) → j < length order
     → (c .i < getD order j 0) × (getD order j 0 ≤ c .m)
 unfolding is-gate
 gate-here c order h j l =
@@ -84,7 +84,7 @@ module _ (kind : Kind) (c : Counts) (table : List ℕ) (right : RightCounts c) (
       omega (arith, pow-succ' 2 (width c + 1 + j))
 
   -- the start polynomial is normal
-  start-shape : Shape kind c (start kind c table)
+  pub start-shape : Shape kind c (start kind c table)
   unfolding start
   start-shape =
       gather-shape kind c (start-terms kind c table)

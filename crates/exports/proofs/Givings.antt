@@ -7,9 +7,11 @@ use native.Mathlib.Omega.{arith}
 use lib.Dec.{ltb}
 use lib.ListN.{length, drop, set}
 use borrow.Author.Tests.{lt-ltb, le-ltb}
-use Rattle.rules.specs.Says.{Says, refuses, answers, first, refuse-or, text-says, word-says}
+use Rattle.rules.specs.Judging.{Inputs, Judged, judge-checks, checks, refusal, judging}
+use Rattle.rules.specs.Says.{says, Says, refuses, answers, first, refuse-or, text-says, word-says}
 use Rattle.rules.specs.Values.{evaluate-checks, evaluating, shown, Evaluated}
 use Rattle.rules.specs.Reading.{reading, reading-says, table-after, ReadAs, netlist, refused, Netlist}
+use Rattle.rules.specs.declared.answers.Answer.{Answer}
 use Rattle.rules.specs.declared.answers.Text.{Text}
 use Rattle.rules.specs.declared.answers.Text.the-variants.{Read, Refused as RefusedText}
 use Rattle.rules.specs.declared.answers.Word.{Word}
@@ -17,7 +19,8 @@ use Rattle.rules.specs.declared.answers.Word.the-variants.{Is, Refused as Refus
 use Rattle.rules.specs.declared.counts.Counts.{Counts}
 use Rattle.demands.specs.Refusals.{Unread, header, counts, short, inputs, outputs, gates, after}
 use Rattle.demands.proofs.Readings.{Outcome, said}
-use Rattle.exports.specs.Exported.{number-of, given, unless-short, read-said, ReadGiven, evaluate-said, EvaluateGiven}
+use Rattle.demands.proofs.Verdicts.{verdict-on, verdict-answers}
+use Rattle.exports.specs.Exported.{number-of, given, unless-short, read-said, ReadGiven, evaluate-said, EvaluateGiven, JudgeGiven, Refusing}
 
 -- five words in front
 pub five-put : (a b c d e : ℕ) (list : List ℕ) → 5 ≤ length list → set (set (set (set (set list 0 a) 1 b) 2 c) 3 d) 4 e ≡ a ∷ b ∷ c ∷ d ∷ e ∷ drop 5 list
@@ -27,6 +30,23 @@ five-put a b c d e (v ∷ w ∷ []) h = absurd (omega arith)
 five-put a b c d e (v ∷ w ∷ x ∷ []) h = absurd (omega arith)
 five-put a b c d e (v ∷ w ∷ x ∷ y ∷ []) h = absurd (omega arith)
 five-put a b c d e (v ∷ w ∷ x ∷ y ∷ z ∷ list) h = refl
+
+-- two words in front
+pub two-put : (a b : ℕ) (list : List ℕ) → 6 ≤ length list → set (set list 0 a) 1 b ≡ a ∷ b ∷ drop 2 list
+two-put a b [] h = absurd (omega arith)
+two-put a b (v ∷ []) h = absurd (omega arith)
+two-put a b (v ∷ w ∷ list) h = refl
+
+-- six words in front
+pub six-put : (a b c d e f : ℕ) (list : List ℕ) → 6 ≤ length list
+    → set (set (set (set (set (set list 0 a) 1 b) 2 c) 3 d) 4 e) 5 f ≡ a ∷ b ∷ c ∷ d ∷ e ∷ f ∷ drop 6 list
+six-put a b c d e f [] h = absurd (omega arith)
+six-put a b c d e f (v ∷ []) h = absurd (omega arith)
+six-put a b c d e f (v ∷ w ∷ []) h = absurd (omega arith)
+six-put a b c d e f (v ∷ w ∷ x ∷ []) h = absurd (omega arith)
+six-put a b c d e f (v ∷ w ∷ x ∷ y ∷ []) h = absurd (omega arith)
+six-put a b c d e f (v ∷ w ∷ x ∷ y ∷ z ∷ []) h = absurd (omega arith)
+six-put a b c d e f (u ∷ v ∷ w ∷ x ∷ y ∷ z ∷ list) h = refl
 
 -- one word in front
 pub one-put : (a : ℕ) (list : List ℕ) → 1 ≤ length list → set list 0 a ≡ a ∷ drop 1 list
@@ -156,4 +176,55 @@ module _ (c : Counts) (table : List ℕ) (x y : ℕ) (lent : List ℕ) (r : Word
       record {
         number = rw (said-later 1 lent (evaluating c table x y) h, answer);
         word-words = rw (said-later 1 lent (evaluating c table x y) h, answer) (one-put w lent h);
+      }
+
+-- the number and the values of an answer, where they are written in front
+pub answer-put : (a : Answer) (n : ℕ) (values lent exit : List ℕ) → says a ≡ answers n values → exit ≡ values ++ drop (length values) lent
+    → (n ≡ number-of (says a)) × (exit ≡ given (says a) lent)
+unfolding number-of given
+answer-put a n values lent exit e put = (rw e, rw e put)
+
+-- and of a refusal
+pub refusal-put : (a : Answer) (k : ℕ) (lent : List ℕ) → says a ≡ refuses k → (100 + k ≡ number-of (says a)) × (lent ≡ given (says a) lent)
+unfolding number-of given
+refusal-put a k lent e = (rw e, rw e)
+
+-- what an answer says, from the answer
+pub answer-says : (a q : Answer) → a ≡ q → says a ≡ says q
+answer-says a q e = ap says e
+
+-- no room for six values
+pub judge-short : (x : Inputs) (lent : List ℕ) → length lent < 6 → JudgeGiven x lent 112 (x .store) (x .scratch) (x .gates) (x .terms) lent
+unfolding number-of given
+judge-short x lent h =
+    record {
+      number = rw (said-short 6 lent (judging x) h);
+      store-words = rw (lt-ltb (length lent) 6 h);
+      scratch-words = rw (lt-ltb (length lent) 6 h);
+      gate-records = rw (lt-ltb (length lent) 6 h);
+      term-records = rw (lt-ltb (length lent) 6 h);
+      answer-words = rw (said-short 6 lent (judging x) h);
+    }
+
+module _ (x : Inputs) (lent : List ℕ) (a : Answer) (store scratch gates terms : List ℕ) (done : Judged x a store scratch gates terms) where
+  -- the number of a refusal is at most 12
+  pub judge-most : Refusing a
+  unfolding judging refuse-or refusal checks judge-checks
+  judge-most k e = go (first (checks x)) (first-most 12 (checks x) (omega arith)) (sym (done .said) ∙ e)
+    where
+      go : (j : ℕ) → j ≤ 12 → refuse-or j (verdict-on x) ≡ refuses k → k ≤ 12
+      go zero l h = absurd (verdict-answers x k (sym h))
+      go (suc j) l h = let same : suc j ≡ k = cc in rw same at l
+
+  -- what the judge says, given
+  pub judge-given : (r : ℕ) (exit : List ℕ) → 6 ≤ length lent → (r ≡ number-of (says a)) × (exit ≡ given (says a) lent)
+      → JudgeGiven x lent r store scratch gates terms exit
+  judge-given r exit h put =
+      record {
+        number = put .0 ∙ rw (said-later 6 lent (judging x) h, done .said);
+        store-words = rw (le-ltb (length lent) 6 h) (done .store-words);
+        scratch-words = rw (le-ltb (length lent) 6 h) (done .scratch-words);
+        gate-records = rw (le-ltb (length lent) 6 h) (done .gate-records);
+        term-records = rw (le-ltb (length lent) 6 h) (done .term-records);
+        answer-words = put .1 ∙ rw (said-later 6 lent (judging x) h, done .said);
       }

@@ -2,12 +2,14 @@
 use mathlib.Core.Path.{_≡_}
 use mathlib.Core.Bool.{cond}
 use mathlib.Core.List.{List, _++_}
-use Prim.Native.Nat.{ℕ, _+_}
+use Prim.Native.Nat.{ℕ, _+_, _≤_}
 use lib.Dec.{ltb}
 use lib.ListN.{length, drop}
-use Rattle.rules.specs.Says.{Says, refuses, answers}
+use Rattle.rules.specs.Says.{Says, refuses, answers, says}
 use Rattle.rules.specs.Values.{evaluating}
 use Rattle.rules.specs.Reading.{reading, reading-says, table-after}
+use Rattle.rules.specs.Judging.{Inputs, judging, store-after, scratch-after, gates-after, terms-after}
+use Rattle.rules.specs.declared.answers.Answer.{Answer}
 use Rattle.rules.specs.declared.counts.Counts.{Counts}
 
 -- the number of what is said: the answer's, or 100 plus the refusal's
@@ -42,3 +44,20 @@ evaluate-said c table x y word = unless-short 1 word (evaluating c table x y)
 pub record EvaluateGiven (c : Counts) (table : List ℕ) (x y : ℕ) (word : List ℕ) (r : ℕ) (word-exit : List ℕ) : Type 0 where
   pub number : r ≡ number-of (evaluate-said c table x y word)
   pub word-words : word-exit ≡ given (evaluate-said c table x y word) word
+
+-- what the judge says to a host
+abbrev pub judge-said : Inputs → List ℕ → Says
+judge-said x answer = unless-short 6 answer (judging x)
+
+-- the permitted outcome of `hraskell_judge`
+pub record JudgeGiven (x : Inputs) (answer : List ℕ) (r : ℕ) (store scratch gates terms answer-exit : List ℕ) : Type 0 where
+  pub number : r ≡ number-of (judge-said x answer)
+  pub store-words : store ≡ cond (ltb (length answer) 6) (x .store) (store-after x)
+  pub scratch-words : scratch ≡ cond (ltb (length answer) 6) (x .scratch) (scratch-after x)
+  pub gate-records : gates ≡ cond (ltb (length answer) 6) (x .gates) (gates-after x)
+  pub term-records : terms ≡ cond (ltb (length answer) 6) (x .terms) (terms-after x)
+  pub answer-words : answer-exit ≡ given (judge-said x answer) answer
+
+-- a refusal's number is one that the judge gives
+abbrev pub Refusing : Answer → Type 0
+Refusing a = (k : ℕ) → says a ≡ refuses k → k ≤ 12

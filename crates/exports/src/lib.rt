@@ -1,3 +1,4 @@
 // The entry points for C and Rust hosts, on numbers and slices. include/hraskell.h has their prototypes.
 pub mod evaluating; // evaluating.rt: hraskell_evaluate
+pub mod judging; // judging.rt: hraskell_judge
 pub mod reading; // reading.rt: hraskell_read

@@ -10,7 +10,7 @@ use Rattle.rules.specs.Steps.{step, trail, run}
 use Rattle.rules.specs.declared.counts.Counts.{Counts}
 
 -- there is one polynomial more than there are steps
-length-trail : (m : ℕ) (c : Counts) (table : List ℕ) (p : Polynomial) (order : List ℕ) → length (trail m c table p order) ≡ suc (length order)
+pub length-trail : (m : ℕ) (c : Counts) (table : List ℕ) (p : Polynomial) (order : List ℕ) → length (trail m c table p order) ≡ suc (length order)
 unfolding trail
 length-trail m c table p [] = refl
 length-trail m c table p (v ∷ order) = ap suc (length-trail m c table (step m c table v p) order)

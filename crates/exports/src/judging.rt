@@ -1,0 +1,104 @@
+// Judging a block.
+use rules::answers::Answer;
+use rules::counts::Counts;
+ghost use mathlib.Core.Path.{_≡_};
+ghost use mathlib.Core.List.{_∷_, [], _++_};
+ghost use Prim.Native.Nat.{_≤_};
+ghost use lib.ListN.{length, drop};
+ghost use Rattle.rules.specs.Says.{says};
+ghost use Rattle.judge.specs.Deciding.{handed};
+ghost use Rattle.exports.specs.Exported.{number-of, given, Refusing, JudgeGiven};
+
+// Writes two numbers in front.
+fn put_two(x: u64, y: u64, answer: &mut [u64])
+    requires { ⌜ 6 ≤ length (now answer) ⌝ }
+    ensures { λ r. ⌜ now (answer .exit) ≡ (x ∷ y ∷ []) ++ drop 2 (now (answer .entry)) ⌝ }
+{
+    answer[0] = x;
+    answer[1] = y;
+}
+
+// Writes what D also gives in front: the steps, the terms, the pair and the two words.
+fn put_six(steps: u64, terms: u64, a: u64, b: u64, got: u64, wanted: u64, answer: &mut [u64])
+    requires { ⌜ 6 ≤ length (now answer) ⌝ }
+    ensures { λ r. ⌜ now (answer .exit) ≡ (steps ∷ terms ∷ a ∷ b ∷ got ∷ wanted ∷ []) ++ drop 6 (now (answer .entry)) ⌝ }
+{
+    answer[0] = steps;
+    answer[1] = terms;
+    answer[2] = a;
+    answer[3] = b;
+    answer[4] = got;
+    answer[5] = wanted;
+}
+
+// Writes the values of what was said, and gives its number.
+fn put_answer(said: Answer, answer: &mut [u64]) -> u32
+    requires { ⌜ (6 ≤ length (now answer)) × Refusing said ⌝ }
+    ensures { λ r. ⌜ (r ≡ number-of (says said)) × (now (answer .exit) ≡ given (says said) (now (answer .entry))) ⌝ }
+{
+    match said {
+        Answer::Refused(number) => 100 + number,
+        Answer::Equal { steps, terms } => {
+            put_two(steps as u64, terms as u64, answer);
+            0
+        }
+        Answer::OutOfRoom { step, terms } => {
+            put_two(step as u64, terms as u64, answer);
+            2
+        }
+        Answer::Unfinished { steps, terms } => {
+            put_two(steps as u64, terms as u64, answer);
+            3
+        }
+        Answer::Differs {
+            steps,
+            terms,
+            a,
+            b,
+            got,
+            wanted,
+        } => {
+            put_six(steps as u64, terms as u64, a, b, got, wanted, answer);
+            1
+        }
+    }
+}
+
+// 0 to 3 for E, D, R, U with the answer's values, or 100 plus the refusal with nothing changed; 112 where there is no room for six
+// values.
+#[no_mangle]
+pub extern "C" fn hraskell_judge(
+    m: u32,
+    i: u32,
+    l: u32,
+    o: u32,
+    a: u32,
+    table: &[u32],
+    kind: u32,
+    limit: u64,
+    order: &[u32],
+    store: &mut [u64],
+    scratch: &mut [u64],
+    gates: &mut [u32],
+    terms: &mut [u32],
+    answer: &mut [u64],
+) -> u32
+    ensures { λ r. ⌜ JudgeGiven (handed (record { m = m; i = i; l = l; o = o; a = a }) (now (table .entry)) kind limit (now (order .entry)) (now (store .entry)) (now (scratch .entry)) (now (gates .entry)) (now (terms .entry))) (now (answer .entry)) r (now (store .exit)) (now (scratch .exit)) (now (gates .exit)) (now (terms .exit)) (now (answer .exit)) ⌝ }
+{
+    if answer.len() < 6 {
+        return 112;
+    }
+    let counts = Counts { m, i, l, o, a };
+    let said = judge::judge(
+        counts,
+        table,
+        kind,
+        limit,
+        order,
+        store,
+        scratch,
+        gates,
+        terms,
+    );
+    put_answer(said, answer)
+}

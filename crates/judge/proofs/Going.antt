@@ -1,0 +1,196 @@
+-- The run so far, with no code in it: what holds after k steps, how a turn takes it further, and how it ends.
+use mathlib.Core.Path.{_≡_, refl, ap, sym, _∙_}
+use mathlib.Core.Bool.{true, false}
+use mathlib.Core.List.{List, [], _∷_, map}
+use Prim.Native.Nat.{ℕ, zero, suc, _+_, _^_, _<_, _≤_}
+use native.Mathlib.Numerals.{add-one, one-add}
+use native.Mathlib.Omega.{arith}
+use lib.Dec.{leb, ltb}
+use lib.ListN.{length, getD, take, drop, set, replicate, length-append, length-take, length-drop, length-map, List·getD-map, drop-of-length-le}
+use lib.Seq.{drop-cons, take-suc, set-at, append-snoc, length-take-le, getD-drop}
+use borrow.Author.Tests.{lt-ltb, le-ltb, leb-false}
+use Rattle.rules.specs.Each.{every}
+use Rattle.rules.specs.Judging.{is-gate, set-width, roomy, held, completed, over}
+use Rattle.rules.specs.Polynomial.{Polynomial}
+use Rattle.rules.specs.Steps.{step, trail}
+use Rattle.rules.specs.declared.counts.Counts.{Counts}
+use Rattle.rules.proofs.Indices.{every-at}
+use Rattle.rules.proofs.Trails.{length-trail}
+use Rattle.demands.proofs.StepShape.{gate-here}
+use Rattle.words.specs.Stored.{decoded}
+use Rattle.judge.specs.Running.{Running, Turned, Finished}
+use Rattle.judge.specs.declared.turn.Turn.{Turn}
+use Rattle.judge.specs.declared.run.Ran.{Ran}
+use Rattle.judge.proofs.Held.{running-decoded, step-normal, Moved, moved}
+
+module _ (m : ℕ) (c : Counts) (table : List ℕ) where
+  -- a trail begins with its polynomial
+  pub trail-first : (p : Polynomial) (order : List ℕ) → getD (trail m c table p order) 0 [] ≡ p
+  unfolding trail
+  trail-first p [] = refl
+  trail-first p (v ∷ order) = refl
+
+  -- each polynomial of a trail is a step from the one before it
+  trail-next : (order : List ℕ) (p : Polynomial) (k : ℕ) → k < length order
+      → getD (trail m c table p order) (suc k) [] ≡ step m c table (getD order k 0) (getD (trail m c table p order) k [])
+  unfolding trail
+  trail-next [] p k h = absurd (omega arith)
+  trail-next (v ∷ order) p zero h = trail-first (step m c table v p) order
+  trail-next (v ∷ order) p (suc k) h = trail-next order (step m c table v p) k (omega arith)
+
+module _ (limit : ℕ) (list : List Polynomial) (j : ℕ) (h : j < length list) where
+  -- a polynomial with room is one more
+  pub roomy-next : length (getD list j []) ≤ limit → roomy limit (drop j list) ≡ suc (roomy limit (drop (suc j) list))
+  unfolding roomy
+  roomy-next l = rw (drop-cons list j [] h, le-ltb limit (length (getD list j [])) l)
+
+  -- one without is the end
+  pub roomy-full : limit < length (getD list j []) → roomy limit (drop j list) ≡ 0
+  unfolding roomy
+  roomy-full l = rw (drop-cons list j [] h, lt-ltb limit (length (getD list j [])) l)
+
+module _ (new old : List ℕ) (k : ℕ) where
+  -- the first entries written over a list leave it as long as it was
+  pub length-over : k ≤ length new → k ≤ length old → length (over k new old) ≡ length old
+  unfolding over
+  length-over n o = simp (length-append, length-take, length-drop) (omega arith)
+
+  -- one entry more
+  over-next : k < length new → k < length old → set (over k new old) k (getD new k 0) ≡ over (k + 1) new old
+  unfolding over
+  over-next n o =
+      let l : length (take k new) ≡ k = length-take-le k new (omega arith) in
+      rw (add-one k, drop-cons old k 0 o, set-at (take k new) (getD old k 0) (drop (suc k) old) (getD new k 0) k l, take-suc new k 0 n)
+      (sym (append-snoc (take k new) (getD new k 0) (drop (suc k) old)))
+
+-- behind the last there is none
+roomy-none : (limit : ℕ) (list : List Polynomial) (j : ℕ) → length list ≤ j → roomy limit (drop j list) ≡ 0
+unfolding roomy
+roomy-none limit list j h = rw (drop-of-length-le list {i = j} h)
+
+-- the polynomials of a run from `first`
+abbrev pub path : Counts → List ℕ → Polynomial → List ℕ → List Polynomial
+path c table first order = trail (2 ^ c .o) c table first order
+
+-- after k steps, each with room: the polynomial is in the store, and the log has k records over what stood there
+pub record Going (c : Counts) (table : List ℕ) (limit : ℕ) (order : List ℕ) (first : Polynomial) (store₀ scratch₀ gates₀ terms₀ : List ℕ)
+    (k count : ℕ) (store scratch gates terms : List ℕ) : Type 0 where
+  pub within : k ≤ length order
+  pub running : Running c table limit count (getD (path c table first order) k []) store scratch
+  pub store-lent : length store ≡ length store₀
+  pub scratch-lent : length scratch ≡ length scratch₀
+  pub room : roomy limit (path c table first order) ≡ suc k + roomy limit (drop (suc k) (path c table first order))
+  pub gate-records : gates ≡ over k order gates₀
+  pub term-records : terms ≡ over k (map length (drop 1 (path c table first order))) terms₀
+
+module _ {c : Counts} {table : List ℕ} {limit : ℕ} {order : List ℕ} {first : Polynomial} {store₀ scratch₀ gates₀ terms₀ : List ℕ} where
+  -- before the first step
+  pub going-first : {count : ℕ} → Running c table limit count first store₀ scratch₀
+      → Going c table limit order first store₀ scratch₀ gates₀ terms₀ 0 count store₀ scratch₀ gates₀ terms₀
+  unfolding over
+  going-first {count} r =
+      let e : getD (path c table first order) 0 [] ≡ first = trail-first (2 ^ c .o) c table first order in
+      let few : length (getD (path c table first order) 0 []) ≤ limit = rw e (omega (arith, r .counted, r .few)) in
+      let room : roomy limit (path c table first order) ≡ suc (roomy limit (drop 1 (path c table first order))) =
+      roomy-next limit (path c table first order) 0 (omega (arith, length-trail (2 ^ c .o) c table first order)) few in
+      record {
+        within = omega arith;
+        running = rw e r;
+        store-lent = refl;
+        scratch-lent = refl;
+        room = omega arith;
+        gate-records = refl;
+        term-records = refl;
+      }
+
+  module _ {k count : ℕ} {store scratch gates terms : List ℕ}
+      (g : Going c table limit order first store₀ scratch₀ gates₀ terms₀ k count store scratch gates terms) where
+    -- the log is as long as it was
+    pub gates-lent : length order ≤ length gates₀ → length gates ≡ length gates₀
+    gates-lent l = ap length (g .gate-records) ∙ length-over order gates₀ k (g .within) (omega (arith, g .within))
+
+    pub terms-lent : length order ≤ length terms₀ → length terms ≡ length terms₀
+    terms-lent l =
+        let all : length (path c table first order) ≡ suc (length order) = length-trail (2 ^ c .o) c table first order in
+        let long : k ≤ length (map length (drop 1 (path c table first order))) = simp (length-map, length-drop) (omega (arith, g .within)) in
+        ap length (g .term-records) ∙ length-over (map length (drop 1 (path c table first order))) terms₀ k long (omega (arith, g .within))
+
+    -- what a turn asks is there
+    pub going-ready : k < length order → every (is-gate c) order ≡ true
+        → Running c table limit count (decoded (set-width c) count store) store scratch × (c .i < getD order k 0) × (getD order k 0 ≤ c .m)
+    going-ready h every-gate =
+        let gate = gate-here c order every-gate k h in
+        (rw (running-decoded (g .running)) (g .running), gate .0, gate .1)
+
+    -- the polynomial held at the end, where the next has no room or there is none
+    finish : roomy limit (path c table first order) ≡ suc k → (r : Ran) → r .fits ≡ ltb (length order) (suc k) → r .steps ≡ k → r .terms ≡ count
+        → Finished c limit order (path c table first order) store₀ scratch₀ gates₀ terms₀ r store (replicate (length scratch₀) 0) gates terms
+    unfolding held completed
+    finish e r fits steps counted =
+        record {
+          fits = rw e fits;
+          steps = rw e steps;
+          counted = rw e (counted ∙ g .running .counted);
+          few = rw counted (g .running .few);
+          falls = rw e (g .running .falls);
+          store-words = rw (e, ← g .store-lent) (g .running .kept);
+          scratch-words = refl;
+          gate-records = rw e (g .gate-records);
+          term-records = rw e (g .term-records);
+        }
+
+    -- after the last step
+    pub going-end : k ≡ length order → (r : Ran) → r .fits ≡ true → r .steps ≡ k → r .terms ≡ count
+        → Finished c limit order (path c table first order) store₀ scratch₀ gates₀ terms₀ r store scratch gates terms
+    going-end e r fits steps counted =
+        let clean : scratch ≡ replicate (length scratch₀) 0 = rw (g .scratch-lent) at (g .running .clean) in
+        let last : roomy limit (drop (suc k) (path c table first order)) ≡ 0 =
+        roomy-none limit (path c table first order) (suc k) (omega (arith, length-trail (2 ^ c .o) c table first order)) in
+        rw clean (finish (omega (arith, g .room)) r (fits ∙ sym (lt-ltb (length order) (suc k) (omega arith))) steps counted)
+
+    module _ (h : k < length order) (every-gate : every (is-gate c) order ≡ true) {t : Turn} {store′ scratch′ : List ℕ}
+        (turned : Turned c limit count (getD order k 0) (step (2 ^ c .o) c table (getD order k 0) (decoded (set-width c) count store)) store scratch t store′ scratch′) where
+      -- the turn is to the next polynomial
+      turned-next : Turned c limit count (getD order k 0) (getD (path c table first order) (suc k) []) store scratch t store′ scratch′
+      turned-next =
+          rw (trail-next (2 ^ c .o) c table order first k h, ← running-decoded (g .running)) turned
+
+      -- a turn without room ends the run
+      pub going-full : t .fits ≡ false → (r : Ran) → r .fits ≡ false → r .steps ≡ k → r .terms ≡ count
+          → Finished c limit order (path c table first order) store₀ scratch₀ gates₀ terms₀ r store′ scratch′ gates terms
+      going-full full r fits steps counted =
+          let t′ = turned-next in
+          let over-limit : leb (length (getD (path c table first order) (suc k) [])) limit ≡ false = sym (t′ .fits) ∙ full in
+          let same : store′ ≡ store = rw over-limit at (t′ .stored) in
+          let clean : scratch′ ≡ replicate (length scratch₀) 0 = rw (g .scratch-lent) at (t′ .cleared) in
+          let z : roomy limit (drop (suc k) (path c table first order)) ≡ 0 =
+          roomy-full limit (path c table first order) (suc k) (omega (arith, length-trail (2 ^ c .o) c table first order)) (leb-false _ _ over-limit) in
+          rw (same, clean) (finish (omega (arith, g .room)) r (fits ∙ sym (le-ltb (length order) (suc k) (omega arith))) steps counted)
+
+      -- a turn with room is one step more
+      pub going-more : length order ≤ length gates₀ → length order ≤ length terms₀ → t .fits ≡ true
+          → Going c table limit order first store₀ scratch₀ gates₀ terms₀ (k + 1) (t .terms) store′ scratch′ (set gates k (t .gate)) (set terms k (t .terms))
+      going-more long-gates long-terms fits =
+          let t′ = turned-next in
+          let gate = gate-here c order every-gate k h in
+          let normal = step-normal (g .running) (getD order k 0) (gate .0) (gate .1) in
+          let next : getD (path c table first order) (suc k) [] ≡ step (2 ^ c .o) c table (getD order k 0) (getD (path c table first order) k []) =
+          trail-next (2 ^ c .o) c table order first k h in
+          let m : Moved c table limit (getD (path c table first order) (suc k) []) store scratch t store′ scratch′ =
+          moved (g .running) (rw next (normal .0)) (rw next (normal .1)) t′ fits in
+          let more : k + 1 ≡ suc k = add-one k in
+          let all : length (path c table first order) ≡ suc (length order) = length-trail (2 ^ c .o) c table first order in
+          let few : length (getD (path c table first order) (suc k) []) ≤ limit = omega (arith, m .running .counted, m .running .few) in
+          let records : List ℕ = map length (drop 1 (path c table first order)) in
+          let long-records : k < length records = simp (length-map, length-drop) (omega arith) in
+          let counted : getD records k 0 ≡ t .terms =
+          List·getD-map length (drop 1 (path c table first order)) k [] ∙ ap length (getD-drop 1 (path c table first order) k []) ∙ ap (λ (n : ℕ). length (getD (path c table first order) n [])) (one-add k) ∙ sym (m .running .counted) in
+          record {
+            within = omega arith;
+            running = rw more (m .running);
+            store-lent = m .store-lent ∙ g .store-lent;
+            scratch-lent = m .scratch-lent ∙ g .scratch-lent;
+            room = rw more (omega (arith, g .room, roomy-next limit (path c table first order) (suc k) (omega arith) few));
+            gate-records = rw (g .gate-records, turned .gate) (over-next order gates₀ k h (omega arith));
+            term-records = rw (g .term-records, ← counted) (over-next records terms₀ k long-records (omega arith));
+          }

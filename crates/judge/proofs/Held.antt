@@ -1,0 +1,175 @@
+-- A polynomial held in lent words: what the words decode to, what a step of it asks, and what holds after the step.
+use mathlib.Core.Path.{_≡_, refl, ap, sym, _∙_}
+use mathlib.Core.Bool.{Bool, true, false}
+use mathlib.Core.List.{List, [], _∷_}
+use Prim.Native.Nat.{ℕ, _+_, _-_, _*_, _/_, _^_, _<_, _≤_}
+use native.Mathlib.Nat.{mul-le-mul-right}
+use native.Mathlib.Omega.{arith}
+use lib.Dec.{leb}
+use lib.ListN.{length, replicate, length-append, length-replicate}
+use lib.Pow.{pow-mono, pow-pos}
+use borrow.Author.Tests.{leb-true}
+use Rattle.rules.specs.Judging.{set-width, term-width, polynomial-words, padded}
+use Rattle.rules.specs.Netlist.{rhs0, rhs1}
+use Rattle.rules.specs.Polynomial.{Polynomial, Below, Coefficients, gather}
+use Rattle.rules.specs.Steps.{step, all-replaced}
+use Rattle.rules.specs.declared.counts.Counts.{Counts}
+use Rattle.rules.proofs.Gathered.{gather-below, gather-coefficients, under-of}
+use Rattle.rules.proofs.Terms.{weaken}
+use Rattle.rules.proofs.AllSets.{AllSets, sets-under, all-terms-replaced}
+use Rattle.demands.proofs.StepShape.{UpTo, up-to-joins}
+use Rattle.netlist.proofs.Facts.{facts, gate-within}
+use Rattle.words.specs.Stored.{decoded}
+use Rattle.words.proofs.Encoded.{decoded-words, length-polynomial-words}
+use Rattle.poly.specs.Stepping.{Ready, Stepped}
+use Rattle.judge.specs.Running.{Running, Turned}
+use Rattle.judge.specs.declared.turn.Turn.{Turn}
+
+-- sets that fall from a bound are all below it
+sets-of : (b d : ℕ) (p : Polynomial) → b ≤ d → Below b p → AllSets (λ s. s < d) p
+sets-of b d [] l h = tt
+sets-of b d (t ∷ p) l h = (omega arith, sets-of (t .1) d p (omega arith) (h .1))
+
+-- the variables up to M have room in the words of a set
+pub set-room : (c : Counts) → 2 ^ (c .m + 1) ≤ 2 ^ (64 * set-width c)
+unfolding set-width
+set-room c = pow-mono (omega arith)
+
+-- words with zeros behind them are as long as what was lent
+pub length-padded : (lent : ℕ) (words : List ℕ) → length words ≤ lent → length (padded lent words) ≡ lent
+unfolding padded
+length-padded lent words h = simp (length-append, length-replicate) (omega arith)
+
+-- sets that fall below 2^(M + 1), in their words with anything behind them, decode to themselves
+pub decoded-held : (c : Counts) (p : Polynomial) (lent : ℕ) → Below (2 ^ (c .m + 1)) p
+    → decoded (set-width c) (length p) (padded lent (polynomial-words (set-width c) p)) ≡ p
+unfolding padded
+decoded-held c p lent h =
+    decoded-words (set-width c) p (replicate (lent - length (polynomial-words (set-width c) p)) 0)
+    (under-of (2 ^ (c .m + 1)) (2 ^ (64 * set-width c)) p (set-room c) h)
+
+-- a polynomial with room has its words in the store
+pub words-fit : (c : Counts) (limit lent : ℕ) (p : Polynomial) → length p ≤ limit → limit * term-width c ≤ lent
+    → length (polynomial-words (set-width c) p) ≤ lent
+unfolding term-width
+words-fit c limit lent p h l =
+    omega (arith, length-polynomial-words (set-width c) p, mul-le-mul-right (set-width c + 1) h)
+
+module _ {c : Counts} {table : List ℕ} {limit count : ℕ} {p : Polynomial} {store scratch : List ℕ} (r : Running c table limit count p store scratch) where
+  -- the polynomial of a run is what its words decode to
+  pub running-decoded : decoded (set-width c) count store ≡ p
+  running-decoded =
+      rw (r .counted) (ap (decoded (set-width c) (length p)) (r .kept) ∙ decoded-held c p (length store) (r .falls))
+
+  module _ (v : ℕ) (above : c .i < v) (below : v ≤ c .m) where
+    -- a step leaves sets that fall, of variables up to M, and coefficients of l bits
+    pub step-normal : Below (2 ^ (c .m + 1)) (step (2 ^ c .o) c table v p) × Coefficients (2 ^ c .o) (step (2 ^ c .o) c table v p)
+    unfolding step
+    step-normal =
+        let low = gate-within (r .sound) v above below in
+        let raw : Polynomial = all-replaced (2 ^ c .o) v (rhs0 c table v) (rhs1 c table v) p in (
+          gather-below (2 ^ c .o) (2 ^ (c .m + 1)) raw
+              (sets-under (2 ^ (c .m + 1)) raw
+              (all-terms-replaced (UpTo c) (UpTo c) (2 ^ c .o) v (λ s e k. k) (λ s e k. omega arith) (rhs0 c table v) (rhs1 c table v)
+              (up-to-joins c _ (omega arith)) (up-to-joins c _ (omega arith)) p (sets-of (2 ^ (c .m + 1)) (2 ^ (c .m + 1)) p (omega arith) (r .falls)))),
+          gather-coefficients (2 ^ c .o) raw (pow-pos (c .o)),
+        )
+
+-- what a step asks of the words is there
+pub ready : {c : Counts} {table : List ℕ} {limit count : ℕ} {store scratch : List ℕ}
+    → Running c table limit count (decoded (set-width c) count store) store scratch → {v x y : ℕ} → c .i < v → v ≤ c .m
+    → x ≡ rhs0 c table v → y ≡ rhs1 c table v → Ready (c .m / 64 + 1) (c .o) v x y limit count store scratch
+unfolding term-width set-width
+ready {c} {table} {limit} {count} {store} r {v} above below e f′ =
+    let f = facts (r .sound .fitting) in
+    let low = gate-within (r .sound) v above below in
+    record {
+      narrow = omega (arith, f .variables);
+      l-high = f .word;
+      v-in = omega arith;
+      x-low = rw e (low .0);
+      y-low = rw f′ (low .1);
+      held-most = r .few;
+      store-room = r .store-room;
+      scratch-room = r .scratch-room;
+      falls = weaken (2 ^ (c .m + 1)) (2 ^ (64 * (c .m / 64 + 1))) (decoded (c .m / 64 + 1) count store) (pow-mono (omega arith)) (r .falls);
+      coefficients = r .coefficients;
+      kept = r .kept;
+      clean = r .clean;
+    }
+
+-- a step of the gate's literals is the step of the rules
+pub stepped-to : (c : Counts) (table : List ℕ) (v : ℕ) (p : Polynomial) {limit x y r : ℕ} {store scratch store′ scratch′ : List ℕ}
+    → x ≡ rhs0 c table v → y ≡ rhs1 c table v
+    → Stepped (c .m / 64 + 1) limit (gather (2 ^ c .o) (all-replaced (2 ^ c .o) v x y p)) store scratch r store′ scratch′
+    → Stepped (set-width c) limit (step (2 ^ c .o) c table v p) store scratch r store′ scratch′
+unfolding step set-width
+stepped-to c table v p e f s = rw (← e, ← f) s
+
+module _ {c : Counts} {limit count v r : ℕ} {q : Polynomial} {store scratch store′ scratch′ : List ℕ}
+    (s : Stepped (set-width c) limit q store scratch r store′ scratch′) (t : Turn) (gate : t .gate ≡ v) where
+  -- a step with room is a turn
+  pub turned-fits : r ≤ limit → t .fits ≡ true → t .terms ≡ r → Turned c limit count v q store scratch t store′ scratch′
+  turned-fits few fits terms = go (leb (length q) limit) refl
+    where
+      go : (b : Bool) → leb (length q) limit ≡ b → Turned c limit count v q store scratch t store′ scratch′
+      go true e =
+          record {
+            fits = fits ∙ sym e;
+            gate = gate;
+            terms = rw e (terms ∙ (rw e at (s .counted)));
+            stored = s .stored;
+            cleared = s .cleared;
+          }
+      go false e = let n : r ≡ limit + 1 = rw e at (s .counted) in absurd (omega arith)
+
+  -- so is one without, which leaves the terms held before
+  pub turned-full : limit < r → t .fits ≡ false → t .terms ≡ count → Turned c limit count v q store scratch t store′ scratch′
+  turned-full many fits terms = go (leb (length q) limit) refl
+    where
+      go : (b : Bool) → leb (length q) limit ≡ b → Turned c limit count v q store scratch t store′ scratch′
+      go true e =
+          let n : r ≡ length q = rw e at (s .counted) in
+          absurd (omega (arith, leb-true (length q) limit e))
+      go false e =
+          record {
+            fits = fits ∙ sym e;
+            gate = gate;
+            terms = rw e terms;
+            stored = s .stored;
+            cleared = s .cleared;
+          }
+
+-- the state after a turn that has room
+pub record Moved (c : Counts) (table : List ℕ) (limit : ℕ) (q : Polynomial) (store scratch : List ℕ) (r : Turn) (store′ scratch′ : List ℕ) : Type 0 where
+  pub running : Running c table limit (r .terms) q store′ scratch′
+  pub store-lent : length store′ ≡ length store
+  pub scratch-lent : length scratch′ ≡ length scratch
+
+-- a turn with room takes the run to its polynomial
+pub moved : {c : Counts} {table : List ℕ} {limit count v : ℕ} {p q : Polynomial} {store scratch store′ scratch′ : List ℕ} {t : Turn}
+    → Running c table limit count p store scratch → Below (2 ^ (c .m + 1)) q → Coefficients (2 ^ c .o) q
+    → Turned c limit count v q store scratch t store′ scratch′ → t .fits ≡ true → Moved c table limit q store scratch t store′ scratch′
+moved {c} {table} {limit} {count} {v} {p} {q} {store} {scratch} {store′} {scratch′} {t} r falls coefficients turned fits =
+    let fit : leb (length q) limit ≡ true = sym (turned .fits) ∙ fits in
+    let few : length q ≤ limit = leb-true (length q) limit fit in
+    let terms : t .terms ≡ length q = rw fit at (turned .terms) in
+    let stored : store′ ≡ padded (length store) (polynomial-words (set-width c) q) = rw fit at (turned .stored) in
+    let same : length store′ ≡ length store = ap length stored ∙ length-padded (length store) (polynomial-words (set-width c) q) (words-fit c limit (length store) q few (r .store-room)) in
+    let clear : length scratch′ ≡ length scratch = ap length (turned .cleared) ∙ length-replicate (length scratch) 0 in
+    record {
+      running = record {
+        sound = r .sound;
+        taken = r .taken;
+        store-room = rw same (r .store-room);
+        scratch-room = rw clear (r .scratch-room);
+        counted = terms;
+        few = omega arith;
+        falls = falls;
+        coefficients = coefficients;
+        kept = rw same stored;
+        clean = rw clear (turned .cleared);
+      };
+      store-lent = same;
+      scratch-lent = clear;
+    }

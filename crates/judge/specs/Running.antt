@@ -1,0 +1,49 @@
+-- A run over an order in lent words: what it asks, what one turn of it leaves, and what is left at its end.
+use mathlib.Core.Path.{_≡_}
+use mathlib.Core.Bool.{cond}
+use mathlib.Core.List.{List, map}
+use Prim.Native.Nat.{ℕ, _+_, _*_, _^_, _≤_}
+use lib.Dec.{leb, ltb}
+use lib.ListN.{length, drop, replicate}
+use Rattle.rules.specs.Judging.{set-width, term-width, roomy, held, completed, polynomial-words, padded, over}
+use Rattle.rules.specs.Limits.{most-terms}
+use Rattle.rules.specs.Polynomial.{Polynomial, Below, Coefficients}
+use Rattle.rules.specs.declared.counts.Counts.{Counts}
+use Rattle.netlist.specs.Taken.{Sound}
+use Rattle.judge.specs.declared.turn.Turn.{Turn}
+use Rattle.judge.specs.declared.run.Ran.{Ran}
+
+-- a sound block, room for a limit of terms that is taken, and in the store the words of p, which has so many terms; zeros wherever
+-- no term is
+pub record Running (c : Counts) (table : List ℕ) (limit count : ℕ) (p : Polynomial) (store scratch : List ℕ) : Type 0 where
+  pub sound : Sound c table
+  pub taken : limit ≤ most-terms
+  pub store-room : limit * term-width c ≤ length store
+  pub scratch-room : limit * term-width c ≤ length scratch
+  pub counted : count ≡ length p
+  pub few : count ≤ limit
+  pub falls : Below (2 ^ (c .m + 1)) p
+  pub coefficients : Coefficients (2 ^ c .o) p
+  pub kept : store ≡ padded (length store) (polynomial-words (set-width c) p)
+  pub clean : scratch ≡ replicate (length scratch) 0
+
+-- what a turn of gate v to the polynomial q leaves: where q has at most `limit` terms, their number and words; else all as it was
+pub record Turned (c : Counts) (limit count v : ℕ) (q : Polynomial) (store scratch : List ℕ) (r : Turn) (store′ scratch′ : List ℕ) : Type 0 where
+  pub fits : r .fits ≡ leb (length q) limit
+  pub gate : r .gate ≡ v
+  pub terms : r .terms ≡ cond (leb (length q) limit) (length q) count
+  pub stored : store′ ≡ cond (leb (length q) limit) (padded (length store) (polynomial-words (set-width c) q)) store
+  pub cleared : scratch′ ≡ replicate (length scratch) 0
+
+-- what a run through the polynomials leaves, by the rules: whether all had room, the steps completed, the polynomial held, the log
+pub record Finished (c : Counts) (limit : ℕ) (order : List ℕ) (polynomials : List Polynomial) (store scratch gates terms : List ℕ)
+    (r : Ran) (store′ scratch′ gates′ terms′ : List ℕ) : Type 0 where
+  pub fits : r .fits ≡ ltb (length order) (roomy limit polynomials)
+  pub steps : r .steps ≡ completed limit polynomials
+  pub counted : r .terms ≡ length (held limit polynomials)
+  pub few : r .terms ≤ limit
+  pub falls : Below (2 ^ (c .m + 1)) (held limit polynomials)
+  pub store-words : store′ ≡ padded (length store) (polynomial-words (set-width c) (held limit polynomials))
+  pub scratch-words : scratch′ ≡ replicate (length scratch) 0
+  pub gate-records : gates′ ≡ over (completed limit polynomials) order gates
+  pub term-records : terms′ ≡ over (completed limit polynomials) (map length (drop 1 polynomials)) terms

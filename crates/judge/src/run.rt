@@ -1,0 +1,57 @@
+// The steps of an order, one after the other, and the log of those completed.
+use crate::turn::take_turn;
+use rules::counts::Counts;
+ghost use mathlib.Core.Path.{_≡_};
+ghost use mathlib.Core.Bool.{true};
+ghost use Prim.Native.Nat.{_^_, _≤_};
+ghost use lib.ListN.{length};
+ghost use Rattle.rules.specs.Each.{every};
+ghost use Rattle.rules.specs.Judging.{is-gate, set-width};
+ghost use Rattle.rules.specs.Steps.{trail};
+ghost use Rattle.words.specs.Stored.{decoded};
+ghost use Rattle.judge.specs.Running.{Running, Finished};
+
+// Whether every polynomial had room, the steps completed, and the terms held after them.
+pub struct Ran {
+    pub fits: bool,
+    pub steps: usize,
+    pub terms: usize,
+}
+
+// Runs the order on the `held` terms of the store, until a step has no room for its terms. Each step completed is logged.
+pub fn run(
+    c: Counts,
+    table: &[u32],
+    limit: usize,
+    order: &[u32],
+    held: usize,
+    store: &mut [u64],
+    scratch: &mut [u64],
+    gates: &mut [u32],
+    terms: &mut [u32],
+) -> Ran
+    requires { ⌜ Running c (now table) limit held (decoded (set-width c) held (now store)) (now store) (now scratch) × (every (is-gate c) (now order) ≡ true) × (length (now order) ≤ length (now gates)) × (length (now order) ≤ length (now terms)) ⌝ }
+    ensures { λ r. ⌜ Finished c limit (now (order .entry)) (trail (2 ^ c .o) c (now (table .entry)) (decoded (set-width c) held (now (store .entry))) (now (order .entry))) (now (store .entry)) (now (scratch .entry)) (now (gates .entry)) (now (terms .entry)) r (now (store .exit)) (now (scratch .exit)) (now (gates .exit)) (now (terms .exit)) ⌝ }
+{
+    let mut left = held;
+    let mut k = 0;
+    while k < order.len() {
+        let t = take_turn(c, table, order[k], limit, left, store, scratch);
+        if !t.fits {
+            return Ran {
+                fits: false,
+                steps: k,
+                terms: left,
+            };
+        }
+        gates[k] = t.gate;
+        terms[k] = t.terms as u32;
+        left = t.terms;
+        k += 1;
+    }
+    Ran {
+        fits: true,
+        steps: k,
+        terms: left,
+    }
+}

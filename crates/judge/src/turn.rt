@@ -1,0 +1,48 @@
+// One step of a run.
+use netlist::table::rhs0;
+use netlist::table::rhs1;
+use poly::step::step;
+use rules::counts::Counts;
+ghost use Prim.Native.Nat.{_^_, _<_, _≤_};
+ghost use Rattle.rules.specs.Judging.{set-width};
+ghost use Rattle.rules.specs.Steps as rule;
+ghost use Rattle.words.specs.Stored.{decoded};
+ghost use Rattle.judge.specs.Running.{Running, Turned};
+
+// Whether the polynomial after the step has room, the gate of the step, and the terms then held.
+pub struct Turn {
+    pub fits: bool,
+    pub gate: u32,
+    pub terms: usize,
+}
+
+// The step of gate v on the `held` terms of the store. Without room for the terms after it, store and terms stay as they were.
+pub fn take_turn(
+    c: Counts,
+    table: &[u32],
+    v: u32,
+    limit: usize,
+    held: usize,
+    store: &mut [u64],
+    scratch: &mut [u64],
+) -> Turn
+    requires { ⌜ Running c (now table) limit held (decoded (set-width c) held (now store)) (now store) (now scratch) × (c .i < v) × (v ≤ c .m) ⌝ }
+    ensures { λ r. ⌜ Turned c limit held v (rule.step (2 ^ c .o) c (now (table .entry)) v (decoded (set-width c) held (now (store .entry)))) (now (store .entry)) (now (scratch .entry)) r (now (store .exit)) (now (scratch .exit)) ⌝ }
+{
+    let w = (c.m / 64 + 1) as usize;
+    let x = rhs0(c, table, v);
+    let y = rhs1(c, table, v);
+    let terms = step(w, c.o, v, x, y, limit, held, store, scratch);
+    if terms > limit {
+        return Turn {
+            fits: false,
+            gate: v,
+            terms: held,
+        };
+    }
+    Turn {
+        fits: true,
+        gate: v,
+        terms,
+    }
+}

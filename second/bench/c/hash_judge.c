@@ -1,0 +1,185 @@
+/*
+ * A plain judge with a hash table of terms: the baseline that the proved
+ * judge is timed against. Nothing of it is proved.
+ *
+ * It takes sound tables and orders that name gates only, and gives the
+ * answer's letter, its step and the terms held. It leaves no sorted
+ * polynomial and no log, as the proved judge has to.
+ */
+#include <stddef.h>
+#include <stdint.h>
+#include <string.h>
+
+#define SET_WORDS_MOST 16
+#define SLOTS_LEAST 256
+#define BIT(v) (UINT64_C(1) << (v) % 64)
+
+struct polynomial {
+    uint64_t *terms; /* width words each, in no order: the coefficient, then the set */
+    uint32_t *slots; /* a term's place plus 1, or 0: open addressing, at most half full */
+    size_t width, slot_count;
+    size_t used; /* terms with a place, those whose coefficient became 0 too */
+    size_t held; /* terms whose coefficient is not 0 */
+    uint64_t coefficient_bits;
+};
+
+static uint64_t *term(const struct polynomial *p, size_t place)
+{
+    return p->terms + place * p->width;
+}
+
+/* The slot of the term with this set, or the empty slot where it belongs. */
+static size_t slot_of(const struct polynomial *p, const uint64_t *set)
+{
+    uint64_t hash = 0;
+    for (size_t k = 0; k + 1 < p->width; k++) {
+        hash = (hash ^ set[k]) * UINT64_C(0x9e3779b97f4a7c15);
+        hash ^= hash >> 32;
+    }
+    size_t at = hash & (p->slot_count - 1);
+    while (p->slots[at] && memcmp(term(p, p->slots[at] - 1) + 1, set, (p->width - 1) * 8))
+        at = (at + 1) & (p->slot_count - 1);
+    return at;
+}
+
+/* Takes new slots, at least four for each term, so that it is seldom done. */
+static void take_slots(struct polynomial *p)
+{
+    p->slot_count = SLOTS_LEAST;
+    while (p->slot_count < 4 * p->used)
+        p->slot_count *= 2;
+    memset(p->slots, 0, p->slot_count * sizeof *p->slots);
+    for (size_t k = 0; k < p->used; k++)
+        p->slots[slot_of(p, term(p, k) + 1)] = (uint32_t)k + 1;
+}
+
+/* Drops the terms whose coefficient became 0. */
+static void drop_zeros(struct polynomial *p)
+{
+    size_t kept = 0;
+    for (size_t k = 0; k < p->used; k++) {
+        if (term(p, k)[0])
+            memmove(term(p, kept++), term(p, k), p->width * 8);
+    }
+    p->used = kept;
+    take_slots(p);
+}
+
+/* Gathers one term in. */
+static void add(struct polynomial *p, const uint64_t *set, uint64_t coefficient)
+{
+    if (2 * p->used >= p->slot_count)
+        take_slots(p);
+    size_t at = slot_of(p, set);
+    if (!p->slots[at]) {
+        uint64_t *fresh = term(p, p->used++);
+        fresh[0] = 0;
+        memcpy(fresh + 1, set, (p->width - 1) * 8);
+        p->slots[at] = (uint32_t)p->used;
+    }
+    uint64_t *found = term(p, p->slots[at] - 1);
+    p->held -= found[0] != 0;
+    found[0] = (found[0] + coefficient) & p->coefficient_bits;
+    p->held += found[0] != 0;
+}
+
+/* Adds a term times some literals, each of which stands for 0, 1, x or 1 - x. */
+static void add_times(struct polynomial *p, const uint64_t *set, uint64_t coefficient,
+                      const uint32_t *literals, int count)
+{
+    if (count == 0) {
+        add(p, set, coefficient);
+        return;
+    }
+    uint32_t is_inverse = literals[0] & 1, v = literals[0] / 2;
+    if (is_inverse)
+        add_times(p, set, coefficient, literals + 1, count - 1);
+    if (v == 0)
+        return;
+    uint64_t product[SET_WORDS_MOST];
+    memcpy(product, set, (p->width - 1) * 8);
+    product[v / 64] |= BIT(v);
+    add_times(p, product, is_inverse ? -coefficient : coefficient, literals + 1, count - 1);
+}
+
+/* The outputs minus the product; kind 1 is the signed reading. */
+static void start(struct polynomial *p, uint32_t n, uint32_t o, const uint32_t *outputs, uint32_t kind)
+{
+    static const uint64_t none[SET_WORDS_MOST];
+    take_slots(p);
+    for (uint32_t i = 0; i < o; i++)
+        add_times(p, none, BIT(i), outputs + i, 1);
+    for (uint32_t at = 0; at < n * n; at++) {
+        uint32_t i = at / n, j = at % n, both[2] = {2 * (1 + i), 2 * (1 + n + j)};
+        int is_negative = kind == 1 && (i == n - 1) != (j == n - 1);
+        add_times(p, none, is_negative ? BIT(i + j) : -BIT(i + j), both, 2);
+    }
+}
+
+/* Replaces v. A gate reads only below itself, so no term put in holds v and the pass may end before them. */
+static void step(struct polynomial *p, uint32_t v, const uint32_t *gate)
+{
+    /* Terms of coefficient 0 are passed over in vain. */
+    if (p->used > p->held + p->held / 4 + 32)
+        drop_zeros(p);
+    size_t end = p->used;
+    for (size_t k = 0; k < end; k++) {
+        uint64_t *taken = term(p, k), coefficient = taken[0], rest[SET_WORDS_MOST];
+        if (!coefficient || !(taken[1 + v / 64] & BIT(v)))
+            continue;
+        memcpy(rest, taken + 1, (p->width - 1) * 8);
+        rest[v / 64] ^= BIT(v);
+        taken[0] = 0;
+        p->held--;
+        add_times(p, rest, coefficient, gate, 2);
+    }
+}
+
+/* E, D or U, by the terms that are left after the last step. */
+static char last_answer(const struct polynomial *p, uint32_t m, uint32_t i)
+{
+    for (size_t k = 0; k < p->used; k++) {
+        for (uint32_t v = i + 1; v <= m && term(p, k)[0]; v++) {
+            if (term(p, k)[1 + v / 64] & BIT(v))
+                return 'U';
+        }
+    }
+    return p->held ? 'D' : 'E';
+}
+
+/* The most terms with a place: a step can make four of each. The start has at most 1,089. */
+static size_t places(uint64_t limit)
+{
+    return 6 * limit + 512;
+}
+
+/* What a judgement has to be lent: words for terms, and slots. */
+size_t hash_judge_term_words(uint32_t m, uint64_t limit)
+{
+    return places(limit) * (m / 64 + 2);
+}
+
+size_t hash_judge_slots(uint64_t limit)
+{
+    return 8 * places(limit);
+}
+
+/* Gives the letter E, D, R or U, and in shown the step and the terms held. */
+char hash_judge(uint32_t m, uint32_t i, uint32_t o, const uint32_t *table, uint32_t kind, uint64_t limit,
+                const uint32_t *order, size_t order_length, uint64_t *terms, uint32_t *slots, uint64_t *shown)
+{
+    struct polynomial p = {terms, slots, m / 64 + 2, 0, 0, 0, BIT(o - 1) * 2 - 1};
+    start(&p, i / 2, o, table, kind);
+    shown[0] = shown[1] = 0;
+    if (p.held > limit)
+        return 'R';
+    for (size_t k = 0; k < order_length; k++) {
+        shown[0] = k + 1;
+        shown[1] = p.held;
+        step(&p, order[k], table + o + 2 * (order[k] - i - 1));
+        if (p.held > limit)
+            return 'R';
+    }
+    shown[1] = p.held;
+    return last_answer(&p, m, i);
+}

@@ -1,0 +1,205 @@
+//! Three judges of one question: the proved library, the second program, and the plain C judge.
+
+use second::{Answer, Counts};
+
+/// What every judge is asked.
+#[derive(Clone, Copy)]
+pub struct Question<'a> {
+    pub counts: Counts,
+    pub table: &'a [u32],
+    pub kind: u32,
+    pub limit: u64,
+    pub order: &'a [u32],
+}
+
+/// What every judge answers. A refusal has the letter X and its number as the step.
+#[derive(Clone, Copy, Debug, PartialEq, Eq)]
+pub struct Verdict {
+    pub letter: char,
+    pub step: u64,
+    pub terms: u64,
+}
+
+impl Verdict {
+    pub fn is_decision(self) -> bool {
+        matches!(self.letter, 'E' | 'D')
+    }
+}
+
+impl std::fmt::Display for Verdict {
+    fn fmt(&self, out: &mut std::fmt::Formatter) -> std::fmt::Result {
+        out.pad(&format!("{} {} {}", self.letter, self.step, self.terms))
+    }
+}
+
+/// The words lent to a judge, as long as document 01 asks. A host lends the same words again and again.
+pub struct Lent {
+    pub store: Vec<u64>,
+    pub scratch: Vec<u64>,
+    pub gates: Vec<u32>,
+    pub terms: Vec<u32>,
+}
+
+impl Lent {
+    pub fn to(question: &Question) -> Lent {
+        let words = question.limit as usize * question.counts.term_words();
+        let steps = question.order.len();
+        Lent {
+            store: vec![0; words],
+            scratch: vec![0; 4 * words],
+            gates: vec![0; steps],
+            terms: vec![0; steps],
+        }
+    }
+}
+
+/// What the C judge works on.
+pub struct LentToHash {
+    terms: Vec<u64>,
+    slots: Vec<u32>,
+}
+
+impl LentToHash {
+    pub fn to(question: &Question) -> LentToHash {
+        // SAFETY: both only compute with numbers.
+        let (words, slots) = unsafe {
+            (
+                hash_judge_term_words(question.counts.m, question.limit),
+                hash_judge_slots(question.limit),
+            )
+        };
+        LentToHash {
+            terms: vec![0; words],
+            slots: vec![0; slots],
+        }
+    }
+}
+
+extern "C" {
+    fn hraskell_judge(
+        m: u32,
+        i: u32,
+        l: u32,
+        o: u32,
+        a: u32,
+        table: *const u32,
+        table_words: usize,
+        kind: u32,
+        limit: u64,
+        order: *const u32,
+        order_words: usize,
+        store: *mut u64,
+        store_words: usize,
+        scratch: *mut u64,
+        scratch_words: usize,
+        gates: *mut u32,
+        gates_words: usize,
+        terms: *mut u32,
+        terms_words: usize,
+        answer: *mut u64,
+        answer_words: usize,
+    ) -> u32;
+
+    fn hash_judge_term_words(m: u32, limit: u64) -> usize;
+
+    fn hash_judge_slots(limit: u64) -> usize;
+
+    fn hash_judge(
+        m: u32,
+        i: u32,
+        o: u32,
+        table: *const u32,
+        kind: u32,
+        limit: u64,
+        order: *const u32,
+        order_words: usize,
+        terms: *mut u64,
+        slots: *mut u32,
+        shown: *mut u64,
+    ) -> u8;
+}
+
+#[rustfmt::skip]
+pub fn by_library(question: &Question, lent: &mut Lent) -> Verdict {
+    let Counts { m, i, l, o, a } = question.counts;
+    let (table, order) = (question.table, question.order);
+    let mut answer = [0; 6];
+    // SAFETY: slices are never null, and those lent for writing overlap nothing.
+    let number = unsafe {
+        hraskell_judge(
+            m, i, l, o, a,
+            table.as_ptr(), table.len(),
+            question.kind, question.limit,
+            order.as_ptr(), order.len(),
+            lent.store.as_mut_ptr(), lent.store.len(),
+            lent.scratch.as_mut_ptr(), lent.scratch.len(),
+            lent.gates.as_mut_ptr(), lent.gates.len(),
+            lent.terms.as_mut_ptr(), lent.terms.len(),
+            answer.as_mut_ptr(), answer.len(),
+        )
+    };
+    match ['E', 'D', 'R', 'U'].get(number as usize) {
+        Some(&letter) => Verdict { letter, step: answer[0], terms: answer[1] },
+        None => refused(number.saturating_sub(100)),
+    }
+}
+
+pub fn by_second(question: &Question, lent: &mut Lent) -> Verdict {
+    let answer = second::judge(
+        question.counts,
+        question.table,
+        question.kind,
+        question.limit,
+        question.order,
+        &mut lent.store,
+        &mut lent.scratch,
+        &mut lent.gates,
+        &mut lent.terms,
+    );
+    let (letter, step, terms) = match answer {
+        Answer::Equal { steps, terms } => ('E', steps, terms),
+        Answer::Differs { steps, terms, .. } => ('D', steps, terms),
+        Answer::OutOfRoom { step, terms } => ('R', step, terms),
+        Answer::Unfinished { steps, terms } => ('U', steps, terms),
+        Answer::Refused(number) => return refused(number),
+    };
+    Verdict {
+        letter,
+        step: step.into(),
+        terms: terms.into(),
+    }
+}
+
+/// The C judge refuses nothing: it is asked only what the others have taken.
+pub fn by_hash(question: &Question, lent: &mut LentToHash) -> Verdict {
+    let mut shown = [0; 2];
+    // SAFETY: the question is sound, and the words are as many as the C judge asks for.
+    let letter = unsafe {
+        hash_judge(
+            question.counts.m,
+            question.counts.i,
+            question.counts.o,
+            question.table.as_ptr(),
+            question.kind,
+            question.limit,
+            question.order.as_ptr(),
+            question.order.len(),
+            lent.terms.as_mut_ptr(),
+            lent.slots.as_mut_ptr(),
+            shown.as_mut_ptr(),
+        )
+    };
+    Verdict {
+        letter: letter.into(),
+        step: shown[0],
+        terms: shown[1],
+    }
+}
+
+fn refused(number: u32) -> Verdict {
+    Verdict {
+        letter: 'X',
+        step: number.into(),
+        terms: 0,
+    }
+}

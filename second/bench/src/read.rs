@@ -1,0 +1,87 @@
+//! Reading a netlist text and evaluating one operand pair, beside the second program.
+
+use crate::library;
+use crate::timing::{met, Least};
+use second::desk::TABLE_WORDS;
+use second::netlists::{random_sound, Made};
+use second::random::Random;
+use std::hint::black_box;
+
+const REPEATS: usize = 5_000;
+const GATES: u32 = 900;
+/// Calls that are timed as one, so that looking at the clock does not count.
+const CALLS: usize = 8;
+/// A processor learns the branches of one pair by heart when it comes again and again; those of so many it cannot.
+const PAIRS: usize = 1_024;
+
+/// Prints a row for each function; says whether both programs give the same.
+pub fn run() -> bool {
+    let mut random = Random::new(1);
+    let netlist = random_sound(&mut random, 64, 64, GATES);
+    let pairs: Vec<(u64, u64)> = (0..PAIRS).map(|_| (random.word(), random.word())).collect();
+    let text = netlist.text();
+    let bytes = text.len();
+    println!(
+        "{GATES} gates, I = 64, O = 64, {bytes} bytes; least of {REPEATS}, microseconds a call"
+    );
+    println!(
+        "{:<20} {:>10} {:>10} {:>9}",
+        "", "library", "second", "lib/sec"
+    );
+    let read = reads_the_same(&text);
+    let evaluates = evaluates_the_same("evaluate, one pair", &netlist, &pairs[..1])
+        & evaluates_the_same("evaluate, many pairs", &netlist, &pairs);
+    read && evaluates
+}
+
+fn reads_the_same(text: &[u8]) -> bool {
+    let (mut one, mut other) = ([0; TABLE_WORDS], [0; TABLE_WORDS]);
+    let by_library = |_| library::read(black_box(text), &mut one);
+    let by_second = |_| second::read(black_box(text), &mut other);
+    gives_the_same("read", by_library, by_second) && one == other
+}
+
+fn evaluates_the_same(name: &str, netlist: &Made, pairs: &[(u64, u64)]) -> bool {
+    let (counts, table) = (netlist.counts, netlist.table.as_slice());
+    let pair = |call: usize| black_box(pairs[call % pairs.len()]);
+    let by_library = |call| {
+        let (a, b) = pair(call);
+        library::evaluate(counts, table, a, b)
+    };
+    let by_second = |call| {
+        let (a, b) = pair(call);
+        second::evaluate(counts, table, a, b)
+    };
+    gives_the_same(name, by_library, by_second)
+}
+
+/// Times both in turn and prints the row; says whether both gave the same, and no refusal.
+fn gives_the_same<R: PartialEq>(
+    name: &str,
+    mut by_library: impl FnMut(usize) -> Result<R, u32>,
+    mut by_second: impl FnMut(usize) -> Result<R, u32>,
+) -> bool {
+    let (mut library, mut second) = (Least::new(), Least::new());
+    for repetition in 0..REPEATS {
+        let first = repetition * CALLS;
+        let one = library.time(|| last_of_calls(first, &mut by_library));
+        let other = second.time(|| last_of_calls(first, &mut by_second));
+        if one != other || one.is_err() {
+            println!("{name}: DISAGREE");
+            return false;
+        }
+    }
+    let [library, second] = [library, second].map(|time| time.microseconds() / CALLS as f64);
+    let ratio = library / second;
+    let target = met(ratio <= 1.0);
+    println!("{name:<20} {library:>10.3} {second:>10.3} {ratio:>9.3}  (at most 1.0: {target})");
+    true
+}
+
+/// Makes the calls that are timed as one.
+fn last_of_calls<R>(first: usize, mut call: impl FnMut(usize) -> R) -> R {
+    for number in first..first + CALLS - 1 {
+        black_box(call(number));
+    }
+    call(first + CALLS - 1)
+}

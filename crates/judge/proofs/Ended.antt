@@ -1,6 +1,6 @@
 -- What the last polynomial says: no gate in its first set means none at all; the soonest of its sets, halved.
 use mathlib.Core.Path.{_≡_, refl, ap, sym, _∙_}
-use mathlib.Core.Bool.{Bool, true, false, cond, _&&_, true≢false}
+use mathlib.Core.Bool.{Bool, true, false, cond, _&&_}
 use mathlib.Core.List.{List, [], _∷_}
 use Prim.Native.Nat.{ℕ, zero, suc, _+_, _*_, _/_, _%_, _^_, _<_, _≤_}
 use native.Mathlib.Nat.{zero-add, mul-assoc, zero-mul, div-lt-iff-lt-mul, div-add-mod', mod-lt, pow-succ', div-eq-of-lt}
@@ -59,7 +59,7 @@ falling bound b [] h l = refl
 falling bound b (t ∷ p) h l = rw (lt-ltb (t .1) bound (omega arith)) (falling bound (t .1) p (h .1) (omega arith))
 
 -- the largest set stands first: it alone says whether all are of inputs
-pub inputs-first : (c : Counts) (b : ℕ) (p : Polynomial) → Below b p → 0 < length p → inputs-only c p ≡ ltb (getD p 0 (0, 0) .1) (2 ^ (c .i + 1))
+inputs-first : (c : Counts) (b : ℕ) (p : Polynomial) → Below b p → 0 < length p → inputs-only c p ≡ ltb (getD p 0 (0, 0) .1) (2 ^ (c .i + 1))
 unfolding inputs-only every
 inputs-first c b [] h l = absurd (omega arith)
 inputs-first c b (t ∷ p) h l = go (ltb (t .1) (2 ^ (c .i + 1))) refl
@@ -71,37 +71,43 @@ inputs-first c b (t ∷ p) h l = go (ltb (t .1) (2 ^ (c .i + 1))) refl
     go false e = refl
 
 -- sets that fall are under whatever the first is under
-pub under-first : (bound b : ℕ) (p : Polynomial) → Below b p → getD p 0 (0, 0) .1 < bound → Under bound p
+under-first : (bound b : ℕ) (p : Polynomial) → Below b p → getD p 0 (0, 0) .1 < bound → Under bound p
 under-first bound b [] h l = tt
 under-first bound b (t ∷ p) h l = (l, under-of (t .1) bound p (omega arith) (h .1))
 
--- D, from the first set and the terms behind it
-pub ended-pair : (kind : Kind) (c : Counts) (table : List ℕ) (steps : ℕ) (p : Polynomial) → 0 < length p → inputs-only c p ≡ true
-    → ended kind c table steps p ≡ differs kind c table steps (length p) (soonest (getD p 0 (0, 0) .1) (drop 1 p))
-unfolding ended
-ended-pair kind c table steps [] l h = absurd (omega arith)
-ended-pair kind c table steps (t ∷ p) l h = rw h
+module _ (kind : Kind) (c : Counts) (table : List ℕ) (steps : ℕ) (p : Polynomial) (some : 0 < length p) where
+  -- D, from the first set and the terms behind it
+  ended-pair : inputs-only c p ≡ true → ended kind c table steps p ≡ differs kind c table steps (length p) (soonest (getD p 0 (0, 0) .1) (drop 1 p))
+  unfolding ended
+  ended-pair h = go p some h
+    where
+      go : (p : Polynomial) → 0 < length p → inputs-only c p ≡ true
+          → ended kind c table steps p ≡ differs kind c table steps (length p) (soonest (getD p 0 (0, 0) .1) (drop 1 p))
+      go [] l h = absurd (omega arith)
+      go (t ∷ p) l h = rw h
 
--- U, where a variable is left that is no input
-ended-unfinished : (kind : Kind) (c : Counts) (table : List ℕ) (steps : ℕ) (p : Polynomial) → inputs-only c p ≡ false
-    → ended kind c table steps p ≡ answers 3 (steps ∷ length p ∷ [])
-unfolding ended inputs-only every
-ended-unfinished kind c table steps [] h = absurd (true≢false h)
-ended-unfinished kind c table steps (t ∷ p) h = rw h
+  -- U
+  ended-gate : inputs-only c p ≡ false → ended kind c table steps p ≡ answers 3 (steps ∷ length p ∷ [])
+  unfolding ended
+  ended-gate h = go p some h
+    where
+      go : (p : Polynomial) → 0 < length p → inputs-only c p ≡ false → ended kind c table steps p ≡ answers 3 (steps ∷ length p ∷ [])
+      go [] l h = absurd (omega arith)
+      go (t ∷ p) l h = rw h
 
 -- the set of the first term stands behind the first word
-pub first-set : (w count : ℕ) (store : List ℕ) → 0 < count → getD (decoded w count store) 0 (0, 0) .1 ≡ num (words-at store 1 w)
+first-set : (w count : ℕ) (store : List ℕ) → 0 < count → getD (decoded w count store) 0 (0, 0) .1 ≡ num (words-at store 1 w)
 unfolding decoded
 first-set w zero store l = absurd (omega arith)
 first-set w (suc k) store l = refl
 
 -- what holds of every set holds of each
-pub even-at : (p : Polynomial) (k : ℕ) → Evens p → k < length p → getD p k (0, 0) .1 % 2 ≡ 0
+even-at : (p : Polynomial) (k : ℕ) → Evens p → k < length p → getD p k (0, 0) .1 % 2 ≡ 0
 even-at [] k h l = absurd (omega arith)
 even-at (t ∷ p) zero h l = h .0
 even-at (t ∷ p) (suc k) h l = even-at p k (h .1) (omega arith)
 
-pub under-at : (b : ℕ) (p : Polynomial) (k : ℕ) → Under b p → k < length p → getD p k (0, 0) .1 < b
+under-at : (b : ℕ) (p : Polynomial) (k : ℕ) → Under b p → k < length p → getD p k (0, 0) .1 < b
 under-at b [] k h l = absurd (omega arith)
 under-at b (t ∷ p) zero h l = h .0
 under-at b (t ∷ p) (suc k) h l = under-at b p k (h .1) (omega arith)
@@ -245,7 +251,7 @@ module _ {c : Counts} {table : List ℕ} {kind count : ℕ} {store : List ℕ} (
   -- a gate is left: U
   pub ending-unfinished : (steps : ℕ) → ltb top (2 ^ (c .i + 1)) ≡ false
       → answers 3 (steps ∷ count ∷ []) ≡ ended (kind-of kind) c table steps last
-  ending-unfinished steps h = sym (ended-unfinished (kind-of kind) c table steps last (inputs-top ∙ h) ∙ rw terms-held)
+  ending-unfinished steps h = sym (ended-gate (kind-of kind) c table steps last (omega (arith, terms-held)) (inputs-top ∙ h) ∙ rw terms-held)
 
   module _ (h : ltb top (2 ^ (c .i + 1)) ≡ true) where
     -- inputs alone have their half in one word

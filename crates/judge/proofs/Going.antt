@@ -14,14 +14,13 @@ use Rattle.rules.specs.Judging.{is-gate, set-width, roomy, held, completed, ove
 use Rattle.rules.specs.Polynomial.{Polynomial}
 use Rattle.rules.specs.Steps.{step, trail}
 use Rattle.rules.specs.declared.counts.Counts.{Counts}
-use Rattle.rules.proofs.Indices.{every-at}
 use Rattle.rules.proofs.Trails.{length-trail}
 use Rattle.demands.proofs.StepShape.{gate-here}
 use Rattle.words.specs.Stored.{decoded}
 use Rattle.judge.specs.Running.{Running, Turned, Finished}
 use Rattle.judge.specs.declared.turn.Turn.{Turn}
 use Rattle.judge.specs.declared.run.Ran.{Ran}
-use Rattle.judge.proofs.Held.{running-decoded, step-normal, Moved, moved}
+use Rattle.judge.proofs.Held.{running-decoded, step-normal, Laid, moved}
 
 module _ (m : ℕ) (c : Counts) (table : List ℕ) where
   -- a trail begins with its polynomial
@@ -51,7 +50,7 @@ module _ (limit : ℕ) (list : List Polynomial) (j : ℕ) (h : j < length list) 
 
 module _ (new old : List ℕ) (k : ℕ) where
   -- the first entries written over a list leave it as long as it was
-  pub length-over : k ≤ length new → k ≤ length old → length (over k new old) ≡ length old
+  length-over : k ≤ length new → k ≤ length old → length (over k new old) ≡ length old
   unfolding over
   length-over n o = simp (length-append, length-take, length-drop) (omega arith)
 
@@ -176,15 +175,18 @@ module _ {c : Counts} {table : List ℕ} {limit : ℕ} {order : List ℕ} {first
           let normal = step-normal (g .running) (getD order k 0) (gate .0) (gate .1) in
           let next : getD (path c table first order) (suc k) [] ≡ step (2 ^ c .o) c table (getD order k 0) (getD (path c table first order) k []) =
           trail-next (2 ^ c .o) c table order first k h in
-          let m : Moved c table limit (getD (path c table first order) (suc k) []) store scratch t store′ scratch′ =
-          moved (g .running) (rw next (normal .0)) (rw next (normal .1)) t′ fits in
+          let m : Laid c table limit (t .terms) (getD (path c table first order) (suc k) []) store scratch store′ scratch′ =
+          moved (g .running) (rw next normal) t′ fits in
           let more : k + 1 ≡ suc k = add-one k in
           let all : length (path c table first order) ≡ suc (length order) = length-trail (2 ^ c .o) c table first order in
           let few : length (getD (path c table first order) (suc k) []) ≤ limit = omega (arith, m .running .counted, m .running .few) in
           let records : List ℕ = map length (drop 1 (path c table first order)) in
           let long-records : k < length records = simp (length-map, length-drop) (omega arith) in
           let counted : getD records k 0 ≡ t .terms =
-          List·getD-map length (drop 1 (path c table first order)) k [] ∙ ap length (getD-drop 1 (path c table first order) k []) ∙ ap (λ (n : ℕ). length (getD (path c table first order) n [])) (one-add k) ∙ sym (m .running .counted) in
+          List·getD-map length (drop 1 (path c table first order)) k []
+          ∙ ap length (getD-drop 1 (path c table first order) k [])
+          ∙ ap (λ (n : ℕ). length (getD (path c table first order) n [])) (one-add k)
+          ∙ sym (m .running .counted) in
           record {
             within = omega arith;
             running = rw more (m .running);

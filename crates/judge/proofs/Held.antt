@@ -10,14 +10,16 @@ use lib.ListN.{length, replicate, length-append, length-replicate}
 use lib.Pow.{pow-mono, pow-pos}
 use borrow.Author.Tests.{leb-true}
 use Rattle.rules.specs.Judging.{set-width, term-width, polynomial-words, padded}
+use Rattle.rules.specs.Limits.{most-terms}
 use Rattle.rules.specs.Netlist.{rhs0, rhs1}
 use Rattle.rules.specs.Polynomial.{Polynomial, Below, Coefficients, gather}
 use Rattle.rules.specs.Steps.{step, all-replaced}
 use Rattle.rules.specs.declared.counts.Counts.{Counts}
 use Rattle.rules.proofs.Gathered.{gather-below, gather-coefficients, under-of}
 use Rattle.rules.proofs.Terms.{weaken}
-use Rattle.rules.proofs.AllSets.{AllSets, sets-under, all-terms-replaced}
-use Rattle.demands.proofs.StepShape.{UpTo, up-to-joins}
+use Rattle.rules.proofs.AllSets.{AllSets, Joins, sets-under, all-terms-replaced}
+use Rattle.rules.proofs.Bits.{with-variable-under}
+use Rattle.netlist.specs.Taken.{Sound}
 use Rattle.netlist.proofs.Facts.{facts, gate-within}
 use Rattle.words.specs.Stored.{decoded}
 use Rattle.words.proofs.Encoded.{decoded-words, length-polynomial-words}
@@ -25,13 +27,8 @@ use Rattle.poly.specs.Stepping.{Ready, Stepped}
 use Rattle.judge.specs.Running.{Running, Turned}
 use Rattle.judge.specs.declared.turn.Turn.{Turn}
 
--- sets that fall from a bound are all below it
-sets-of : (b d : ℕ) (p : Polynomial) → b ≤ d → Below b p → AllSets (λ s. s < d) p
-sets-of b d [] l h = tt
-sets-of b d (t ∷ p) l h = (omega arith, sets-of (t .1) d p (omega arith) (h .1))
-
 -- the variables up to M have room in the words of a set
-pub set-room : (c : Counts) → 2 ^ (c .m + 1) ≤ 2 ^ (64 * set-width c)
+set-room : (c : Counts) → 2 ^ (c .m + 1) ≤ 2 ^ (64 * set-width c)
 unfolding set-width
 set-room c = pow-mono (omega arith)
 
@@ -47,6 +44,11 @@ unfolding padded
 decoded-held c p lent h =
     decoded-words (set-width c) p (replicate (lent - length (polynomial-words (set-width c) p)) 0)
     (under-of (2 ^ (c .m + 1)) (2 ^ (64 * set-width c)) p (set-room c) h)
+
+-- sets that fall from below a bound are all below it
+below-sets : (b d : ℕ) (p : Polynomial) → b ≤ d → Below b p → AllSets (λ s. s < d) p
+below-sets b d [] l h = tt
+below-sets b d (t ∷ p) l h = (omega arith, below-sets (t .1) d p (omega arith) (h .1))
 
 -- a polynomial with room has its words in the store
 pub words-fit : (c : Counts) (limit lent : ℕ) (p : Polynomial) → length p ≤ limit → limit * term-width c ≤ lent
@@ -67,11 +69,14 @@ module _ {c : Counts} {table : List ℕ} {limit count : ℕ} {p : Polynomial} {s
     unfolding step
     step-normal =
         let low = gate-within (r .sound) v above below in
-        let raw : Polynomial = all-replaced (2 ^ c .o) v (rhs0 c table v) (rhs1 c table v) p in (
-          gather-below (2 ^ c .o) (2 ^ (c .m + 1)) raw
-              (sets-under (2 ^ (c .m + 1)) raw
-              (all-terms-replaced (UpTo c) (UpTo c) (2 ^ c .o) v (λ s e k. k) (λ s e k. omega arith) (rhs0 c table v) (rhs1 c table v)
-              (up-to-joins c _ (omega arith)) (up-to-joins c _ (omega arith)) p (sets-of (2 ^ (c .m + 1)) (2 ^ (c .m + 1)) p (omega arith) (r .falls)))),
+        let b = 2 ^ (c .m + 1) in
+        let under : ℕ → Type 0 = λ s. s < 2 ^ (c .m + 1) in
+        let raw : Polynomial = all-replaced (2 ^ c .o) v (rhs0 c table v) (rhs1 c table v) p in
+        let joins : (u : ℕ) → u < v → Joins under u = λ u l above s h. with-variable-under (c .m + 1) s u (omega arith) h in (
+          gather-below (2 ^ c .o) b raw
+              (sets-under b raw
+              (all-terms-replaced under under (2 ^ c .o) v (λ s e h. h) (λ s e h. omega arith) (rhs0 c table v) (rhs1 c table v)
+              (joins _ (low .0)) (joins _ (low .1)) p (below-sets b b p (omega arith) (r .falls)))),
           gather-coefficients (2 ^ c .o) raw (pow-pos (c .o)),
         )
 
@@ -140,36 +145,45 @@ module _ {c : Counts} {limit count v r : ℕ} {q : Polynomial} {store scratch st
             cleared = s .cleared;
           }
 
--- the state after a turn that has room
-pub record Moved (c : Counts) (table : List ℕ) (limit : ℕ) (q : Polynomial) (store scratch : List ℕ) (r : Turn) (store′ scratch′ : List ℕ) : Type 0 where
-  pub running : Running c table limit (r .terms) q store′ scratch′
+-- a run goes on in words that are as many as were lent
+pub record Laid (c : Counts) (table : List ℕ) (limit count : ℕ) (p : Polynomial) (store scratch store′ scratch′ : List ℕ) : Type 0 where
+  pub running : Running c table limit count p store′ scratch′
   pub store-lent : length store′ ≡ length store
   pub scratch-lent : length scratch′ ≡ length scratch
 
--- a turn with room takes the run to its polynomial
-pub moved : {c : Counts} {table : List ℕ} {limit count v : ℕ} {p q : Polynomial} {store scratch store′ scratch′ : List ℕ} {t : Turn}
-    → Running c table limit count p store scratch → Below (2 ^ (c .m + 1)) q → Coefficients (2 ^ c .o) q
-    → Turned c limit count v q store scratch t store′ scratch′ → t .fits ≡ true → Moved c table limit q store scratch t store′ scratch′
-moved {c} {table} {limit} {count} {v} {p} {q} {store} {scratch} {store′} {scratch′} {t} r falls coefficients turned fits =
-    let fit : leb (length q) limit ≡ true = sym (turned .fits) ∙ fits in
-    let few : length q ≤ limit = leb-true (length q) limit fit in
-    let terms : t .terms ≡ length q = rw fit at (turned .terms) in
-    let stored : store′ ≡ padded (length store) (polynomial-words (set-width c) q) = rw fit at (turned .stored) in
-    let same : length store′ ≡ length store = ap length stored ∙ length-padded (length store) (polynomial-words (set-width c) q) (words-fit c limit (length store) q few (r .store-room)) in
-    let clear : length scratch′ ≡ length scratch = ap length (turned .cleared) ∙ length-replicate (length scratch) 0 in
+-- a normal polynomial with room, laid down in its words with zeros behind them, is one that a run goes on from
+pub laid : {c : Counts} {table : List ℕ} {limit count : ℕ} {p : Polynomial} {store scratch store′ scratch′ : List ℕ}
+    → Sound c table → limit ≤ most-terms → limit * term-width c ≤ length store → limit * term-width c ≤ length scratch
+    → Below (2 ^ (c .m + 1)) p × Coefficients (2 ^ c .o) p → count ≡ length p → length p ≤ limit
+    → store′ ≡ padded (length store) (polynomial-words (set-width c) p) → scratch′ ≡ replicate (length scratch) 0
+    → Laid c table limit count p store scratch store′ scratch′
+laid {c} {table} {limit} {count} {p} {store} {scratch} {store′} {scratch′} sound taken store-room scratch-room normal counted few stored cleared =
+    let fit = words-fit c limit (length store) p few store-room in
+    let same : length store′ ≡ length store = ap length stored ∙ length-padded (length store) (polynomial-words (set-width c) p) fit in
+    let clear : length scratch′ ≡ length scratch = ap length cleared ∙ length-replicate (length scratch) 0 in
     record {
       running = record {
-        sound = r .sound;
-        taken = r .taken;
-        store-room = rw same (r .store-room);
-        scratch-room = rw clear (r .scratch-room);
-        counted = terms;
+        sound = sound;
+        taken = taken;
+        store-room = rw same store-room;
+        scratch-room = rw clear scratch-room;
+        counted = counted;
         few = omega arith;
-        falls = falls;
-        coefficients = coefficients;
+        falls = normal .0;
+        coefficients = normal .1;
         kept = rw same stored;
-        clean = rw clear (turned .cleared);
+        clean = rw clear cleared;
       };
       store-lent = same;
       scratch-lent = clear;
     }
+
+-- a turn with room takes the run to its polynomial
+pub moved : {c : Counts} {table : List ℕ} {limit count v : ℕ} {p q : Polynomial} {store scratch store′ scratch′ : List ℕ} {t : Turn}
+    → Running c table limit count p store scratch → Below (2 ^ (c .m + 1)) q × Coefficients (2 ^ c .o) q
+    → Turned c limit count v q store scratch t store′ scratch′ → t .fits ≡ true → Laid c table limit (t .terms) q store scratch store′ scratch′
+moved {c} {table} {limit} {count} {v} {p} {q} {store} {scratch} {store′} {scratch′} {t} r normal turned fits =
+    let fit : leb (length q) limit ≡ true = sym (turned .fits) ∙ fits in
+    let terms : t .terms ≡ length q = rw fit at (turned .terms) in
+    let stored : store′ ≡ padded (length store) (polynomial-words (set-width c) q) = rw fit at (turned .stored) in
+    laid (r .sound) (r .taken) (r .store-room) (r .scratch-room) normal terms (leb-true (length q) limit fit) stored (turned .cleared)

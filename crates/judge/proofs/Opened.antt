@@ -9,7 +9,8 @@ use native.Mathlib.Omega.{arith}
 use lib.Dec.{leb}
 use lib.ListN.{length, getD, take, drop, replicate, length-replicate}
 use lib.Seq.{drop-length}
-use borrow.Author.Tests.{leb-true, leb-false, ltb-true, ltb-false, lt-leb, le-leb, not-false}
+use borrow.Author.Tests.{leb-true, leb-false, ltb-true, ltb-false, le-leb, lt-leb, not-false}
+use Rattle.rules.specs.Each.{every}
 use Rattle.rules.specs.Judging.{set-width, term-width, roomy, held, completed, ended, verdict, polynomial-words, padded, over}
 use Rattle.rules.specs.Netlist.{needed, table-short, table-sound, table-unsound}
 use Rattle.rules.specs.Polynomial.{Polynomial, Below, Coefficients}
@@ -20,18 +21,18 @@ use Rattle.rules.specs.Values.{width}
 use Rattle.rules.specs.declared.answers.Answer.{Answer}
 use Rattle.rules.specs.declared.counts.Counts.{Counts}
 use Rattle.rules.proofs.Sound.{right-counts, sound-table}
+use Rattle.words.specs.Stored.{decoded}
 use Rattle.rules.proofs.Bits.{bit-first}
 use Rattle.rules.proofs.Trails.{length-run}
 use Rattle.demands.proofs.Absent.{Absent, false-absent}
-use Rattle.demands.proofs.StepShape.{start-shape}
+use Rattle.demands.proofs.StepShape.{run-shape}
 use Rattle.demands.proofs.TermLimit.{roomy-le}
-use Rattle.words.specs.Stored.{decoded}
 use Rattle.poly.specs.Start.{Asked, Started, counted, within}
 use Rattle.judge.specs.Running.{Running, Finished}
 use Rattle.judge.specs.Ending.{Evens, Ending}
 use Rattle.judge.specs.Deciding.{Block, Passed, Begun, Decided}
 use Rattle.judge.specs.declared.run.Ran.{Ran}
-use Rattle.judge.proofs.Held.{decoded-held, length-padded, words-fit, running-decoded}
+use Rattle.judge.proofs.Held.{decoded-held, length-padded, words-fit, running-decoded, Laid, laid}
 use Rattle.judge.proofs.Going.{path, trail-first, roomy-full, roomy-next}
 
 -- the polynomials of the run, with the modulus that O gives
@@ -48,12 +49,6 @@ pred-more (suc n) h = add-one n
 evens-of : (p : Polynomial) → Absent 0 p → Evens p
 evens-of [] h = tt
 evens-of (t ∷ p) h = (sym (bit-first (t .1)) ∙ h .0, evens-of p (h .1))
-
--- R, where a polynomial of the run has no room
-verdict-room : (kind : Kind) (c : Counts) (table : List ℕ) (limit : ℕ) (order : List ℕ) → roomy limit (run kind c table order) ≤ length order
-    → verdict kind c table limit order ≡ answers 2 (roomy limit (run kind c table order) ∷ length (held limit (run kind c table order)) ∷ [])
-unfolding verdict
-verdict-room kind c table limit order h = rw (le-leb (roomy limit (run kind c table order)) (length order) h)
 
 -- words cleared from their first to their last are zeros
 pub cleared : (old new : List ℕ) → new ≡ take 0 old ++ (replicate (length old - 0) 0 ++ drop (length old) old) → new ≡ replicate (length old) 0
@@ -94,10 +89,12 @@ module _ {c : Counts} {table : List ℕ} {kind limit : ℕ} {store scratch : Lis
 
   -- the start polynomial is normal
   start-normal : Below (2 ^ (c .m + 1)) (start (kind-of kind) c table) × Coefficients (2 ^ c .o) (start (kind-of kind) c table)
-  unfolding table-unsound modulus
+  unfolding table-unsound modulus every after run trail
   start-normal =
       let s = b .sound in
-      let shape = start-shape (kind-of kind) c table (right-counts c (s .fitting .counts)) (sound-table c table (not-false (table-sound c table) (s .literals))) in
+      let right = right-counts c (s .fitting .counts) in
+      let sound = sound-table c table (not-false (table-sound c table) (s .literals)) in
+      let shape = run-shape (kind-of kind) c table right sound [] refl 0 (omega arith) in
       (shape .falling, subst (λ (l : ℕ). Coefficients (2 ^ l) (start (kind-of kind) c table)) (sym (b .outputs)) (shape .coefficients))
 
   -- a start with room begins a run
@@ -114,29 +111,10 @@ module _ {c : Counts} {table : List ℕ} {kind limit : ℕ} {store scratch : Lis
           let count : r ≡ length p = rw e at (g .written .count) in
           let few : length p ≤ limit = leb-true (length p) limit e in
           let stored : store′ ≡ padded (length store) (polynomial-words (set-width c) p) = rw e at (g .written .words) in
-          let lent : length store′ ≡ length store =
-          ap length stored ∙ length-padded (length store) (polynomial-words (set-width c) p) (words-fit c limit (length store) p few (b .store-room)) in
-          let clear : length scratch′ ≡ length scratch = ap length (g .scratch-words) ∙ length-replicate (length scratch) 0 in
-          let running : Running c table limit r p store′ scratch′ =
-          record {
-            sound = b .sound;
-            taken = b .taken;
-            store-room = rw lent (b .store-room);
-            scratch-room = rw clear (b .scratch-room);
-            counted = count;
-            few = l;
-            falls = start-normal .0;
-            coefficients = start-normal .1;
-            kept = rw lent stored;
-            clean = rw clear (g .scratch-words);
-          } in
-          record {
-            running = rw (running-decoded running) running;
-            same = running-decoded running;
-            few = few;
-            store-lent = lent;
-            scratch-lent = clear;
-          }
+          let l : Laid c table limit r p store scratch store′ scratch′ =
+          laid (b .sound) (b .taken) (b .store-room) (b .scratch-room) start-normal count few stored (g .scratch-words) in
+          let same : decoded (set-width c) r store′ ≡ p = running-decoded (l .running) in
+          record { running = rw same (l .running); same = same; few = few; store-lent = l .store-lent; scratch-lent = l .scratch-lent }
       go false e = let n : r ≡ limit + 1 = rw e at (g .written .count) in absurd (omega arith)
 
 module _ {c : Counts} {table : List ℕ} {kind limit : ℕ} {order store scratch gates terms : List ℕ}
@@ -157,7 +135,7 @@ module _ {c : Counts} {table : List ℕ} {kind limit : ℕ} {order store scratch
   -- no room at the start: R at step 0
   pub decided-none : {r : ℕ} {store′ scratch′ : List ℕ} → Begun c limit first store scratch r store′ scratch′ → limit < r
       → (a : Answer) → says a ≡ answers 2 (0 ∷ 0 ∷ []) → Decided c table kind limit order store scratch gates terms a store′ scratch′ gates terms
-  unfolding held completed over counted within
+  unfolding held completed over verdict counted within
   decided-none {r} {store′} {scratch′} g l a said = go (leb (length first) limit) refl
     where
       go : (t : Bool) → leb (length first) limit ≡ t → Decided c table kind limit order store scratch gates terms a store′ scratch′ gates terms
@@ -168,7 +146,7 @@ module _ {c : Counts} {table : List ℕ} {kind limit : ℕ} {order store scratch
           let many : limit < length (getD all 0 []) = rw (all-first .0) (leb-false (length first) limit e) in
           let none : roomy limit all ≡ 0 = roomy-full limit all 0 (all-first .1) many in
           record {
-            said = said ∙ sym (verdict-room (kind-of kind) c table limit order (omega arith) ∙ rw none);
+            said = said ∙ rw (none, le-leb 0 (length order) (omega arith));
             store-words = rw none (rw e at (g .written .words));
             scratch-words = g .scratch-words;
             gate-records = rw none;
@@ -213,10 +191,11 @@ module _ {c : Counts} {table : List ℕ} {kind limit : ℕ} {order store scratch
     -- R at a later step
     pub decided-full : ran .fits ≡ false → (a : Answer) → says a ≡ answers 2 ((ran .steps + 1) ∷ ran .terms ∷ [])
         → Decided c table kind limit order store scratch gates terms a store₂ scratch₂ gates₂ terms₂
+    unfolding verdict
     decided-full full a said =
         let g = finished in
         let most : roomy limit all ≤ length order = ltb-false (length order) (roomy limit all) (sym (g .fits) ∙ full) in
-        decided a (said ∙ rw (steps-room, g .counted) (sym (verdict-room (kind-of kind) c table limit order most)))
+        decided a (said ∙ rw (steps-room, g .counted, le-leb (roomy limit all) (length order) most))
 
     -- the store has the polynomial held
     held-words : decoded (set-width c) (ran .terms) store₂ ≡ held limit all
@@ -230,8 +209,8 @@ module _ {c : Counts} {table : List ℕ} {kind limit : ℕ} {order store scratch
     held-even = go (roomy limit all) some-room (omega (arith, roomy-le limit all, length-run (kind-of kind) c table order))
       where
         go : (n : ℕ) → 0 < n → n ≤ suc (length order) → Evens (getD ([] ∷ all) n [])
-        go zero l m = absurd (omega arith)
-        go (suc k) l m = evens-of (getD all k []) (false-absent (kind-of kind) c table order k (omega arith))
+        go zero l h = absurd (omega arith)
+        go (suc k) l h = evens-of (getD all k []) (false-absent (kind-of kind) c table order k (omega arith))
 
     -- what the answer asks of the store is there
     pub ending : Ending c table kind (ran .terms) store₂

@@ -102,7 +102,8 @@ fn run_refused(c: Counts, limit: u64, order: &[u32], lent: Lent) -> u32
 
 // The number of the first refusal, or 0.
 pub fn refused(c: Counts, table: &[u32], kind: u32, limit: u64, order: &[u32], lent: Lent) -> u32
-    ensures { λ r. ⌜ r ≡ first (judge-checks c (now (table .entry)) kind limit (now (order .entry)) (lent .store) (lent .scratch) (lent .gates) (lent .terms)) ⌝ }
+    ensures { λ r. ⌜ r ≡ first (judge-checks c (now (table .entry)) kind limit (now (order .entry))
+        (lent .store) (lent .scratch) (lent .gates) (lent .terms)) ⌝ }
 {
     let number = block_refused(c, table, kind);
     if number != 0 {

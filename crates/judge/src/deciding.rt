@@ -19,7 +19,8 @@ fn begin(
     scratch: &mut [u64],
 ) -> usize
     requires { ⌜ Block c (now table) kind limit (now store) (now scratch) ⌝ }
-    ensures { λ r. ⌜ Begun c limit (rule.start (kind-of kind) c (now (table .entry))) (now (store .entry)) (now (scratch .entry)) r (now (store .exit)) (now (scratch .exit)) ⌝ }
+    ensures { λ r. ⌜ Begun c limit (rule.start (kind-of kind) c (now (table .entry)))
+        (now (store .entry)) (now (scratch .entry)) r (now (store .exit)) (now (scratch .exit)) ⌝ }
 {
     clear(store, 0, store.len());
     clear(scratch, 0, scratch.len());
@@ -39,7 +40,9 @@ pub fn decide(
     terms: &mut [u32],
 ) -> Answer
     requires { ⌜ Passed c (now table) kind limit (now order) (now store) (now scratch) (now gates) (now terms) ⌝ }
-    ensures { λ r. ⌜ Decided c (now (table .entry)) kind limit (now (order .entry)) (now (store .entry)) (now (scratch .entry)) (now (gates .entry)) (now (terms .entry)) r (now (store .exit)) (now (scratch .exit)) (now (gates .exit)) (now (terms .exit)) ⌝ }
+    ensures { λ r. ⌜ Decided c (now (table .entry)) kind limit (now (order .entry))
+        (now (store .entry)) (now (scratch .entry)) (now (gates .entry)) (now (terms .entry))
+        r (now (store .exit)) (now (scratch .exit)) (now (gates .exit)) (now (terms .exit)) ⌝ }
 {
     let count = begin(c, table, kind, limit, store, scratch);
     if count > limit {

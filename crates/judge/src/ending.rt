@@ -21,7 +21,8 @@ ghost use Rattle.judge.specs.Ending.{Halves, Ending};
 
 // Whether the first term, whose set is the largest, holds no gate: then no term does.
 fn inputs_only(c: Counts, store: &[u64]) -> bool
-    requires { ⌜ (c .i ≤ c .m) × (c .m ≤ most-variables) × (1 + set-width c ≤ length (now store)) × (num (words-at (now store) 1 (set-width c)) < 2 ^ (c .m + 1)) ⌝ }
+    requires { ⌜ (c .i ≤ c .m) × (c .m ≤ most-variables) × (1 + set-width c ≤ length (now store))
+        × (num (words-at (now store) 1 (set-width c)) < 2 ^ (c .m + 1)) ⌝ }
     ensures { λ r. ⌜ r ≡ ltb (num (words-at (now (store .entry)) 1 (set-width c))) (2 ^ (c .i + 1)) ⌝ }
 {
     let w = (c.m / 64 + 1) as usize;

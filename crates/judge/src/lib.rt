@@ -26,7 +26,9 @@ pub fn judge(
     gates: &mut [u32],
     terms: &mut [u32],
 ) -> Answer
-    ensures { λ r. ⌜ Judged (handed c (now (table .entry)) kind limit (now (order .entry)) (now (store .entry)) (now (scratch .entry)) (now (gates .entry)) (now (terms .entry))) r (now (store .exit)) (now (scratch .exit)) (now (gates .exit)) (now (terms .exit)) ⌝ }
+    ensures { λ r. ⌜ Judged (handed c (now (table .entry)) kind limit (now (order .entry))
+        (now (store .entry)) (now (scratch .entry)) (now (gates .entry)) (now (terms .entry)))
+        r (now (store .exit)) (now (scratch .exit)) (now (gates .exit)) (now (terms .exit)) ⌝ }
 {
     let lent = Lent {
         store: store.len(),

@@ -30,8 +30,12 @@ pub fn run(
     gates: &mut [u32],
     terms: &mut [u32],
 ) -> Ran
-    requires { ⌜ Running c (now table) limit held (decoded (set-width c) held (now store)) (now store) (now scratch) × (every (is-gate c) (now order) ≡ true) × (length (now order) ≤ length (now gates)) × (length (now order) ≤ length (now terms)) ⌝ }
-    ensures { λ r. ⌜ Finished c limit (now (order .entry)) (trail (2 ^ c .o) c (now (table .entry)) (decoded (set-width c) held (now (store .entry))) (now (order .entry))) (now (store .entry)) (now (scratch .entry)) (now (gates .entry)) (now (terms .entry)) r (now (store .exit)) (now (scratch .exit)) (now (gates .exit)) (now (terms .exit)) ⌝ }
+    requires { ⌜ Running c (now table) limit held (decoded (set-width c) held (now store)) (now store) (now scratch)
+        × (every (is-gate c) (now order) ≡ true) × (length (now order) ≤ length (now gates)) × (length (now order) ≤ length (now terms)) ⌝ }
+    ensures { λ r. ⌜ Finished c limit (now (order .entry))
+        (trail (2 ^ c .o) c (now (table .entry)) (decoded (set-width c) held (now (store .entry))) (now (order .entry)))
+        (now (store .entry)) (now (scratch .entry)) (now (gates .entry)) (now (terms .entry))
+        r (now (store .exit)) (now (scratch .exit)) (now (gates .exit)) (now (terms .exit)) ⌝ }
 {
     let mut left = held;
     let mut k = 0;

@@ -26,8 +26,10 @@ pub fn take_turn(
     store: &mut [u64],
     scratch: &mut [u64],
 ) -> Turn
-    requires { ⌜ Running c (now table) limit held (decoded (set-width c) held (now store)) (now store) (now scratch) × (c .i < v) × (v ≤ c .m) ⌝ }
-    ensures { λ r. ⌜ Turned c limit held v (rule.step (2 ^ c .o) c (now (table .entry)) v (decoded (set-width c) held (now (store .entry)))) (now (store .entry)) (now (scratch .entry)) r (now (store .exit)) (now (scratch .exit)) ⌝ }
+    requires { ⌜ Running c (now table) limit held (decoded (set-width c) held (now store)) (now store) (now scratch)
+        × (c .i < v) × (v ≤ c .m) ⌝ }
+    ensures { λ r. ⌜ Turned c limit held v (rule.step (2 ^ c .o) c (now (table .entry)) v (decoded (set-width c) held (now (store .entry))))
+        (now (store .entry)) (now (scratch .entry)) r (now (store .exit)) (now (scratch .exit)) ⌝ }
 {
     let w = (c.m / 64 + 1) as usize;
     let x = rhs0(c, table, v);

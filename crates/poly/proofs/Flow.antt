@@ -187,6 +187,7 @@ module _ (store masks at : List ℕ) (n w k j b : ℕ) (hs : n * (w + 1) ≤ len
     live-j : rank (mask-at w masks) (decoded w n store) at j ≡ suc (num (masked (words-at store (getD at j 0 * (w + 1) + 1) w) (words-at masks (j * w) w)))
     live-j = rank-live (mask-at w masks) (decoded w n store) at j (omega (arith, length-decoded w n store)) ∙ ap suc (key-num store masks n w (getD at j 0) j k lj hs hj hm f g)
 
+    -- and the rank of b
     live-b : rank (mask-at w masks) (decoded w n store) at b ≡ suc (num (masked (words-at store (getD at b 0 * (w + 1) + 1) w) (words-at masks (b * w) w)))
     live-b = rank-live (mask-at w masks) (decoded w n store) at b (omega (arith, length-decoded w n store)) ∙ ap suc (key-num store masks n w (getD at b 0) b k lb hs hb hm f g)
 
@@ -216,10 +217,12 @@ pub scale-none : (m k c : ℕ) → k ≡ 0 → scale m k c ≡ 0
 unfolding scale
 scale-none m k c e = rw e
 
+-- the sign 1
 pub scale-one : (m k c : ℕ) → k ≡ 1 → scale m k c ≡ c
 unfolding scale
 scale-one m k c e = rw e
 
+-- the sign 2
 pub scale-negated : (m k c : ℕ) → (k ≡ 0 → ⊥) → (k ≡ 1 → ⊥) → scale m k c ≡ m - c
 unfolding scale
 scale-negated m zero c e f = absurd (e refl)
@@ -243,6 +246,7 @@ module _ (g : Gate) (signs : List ℕ) (j w n : ℕ) (s : List ℕ) where
   pub Passed : ℕ → ℕ → Type 0
   Passed from k = (i : ℕ) → from ≤ i → i < k → weight g signs j (getD (decoded w n s) i (0, 0)) ≡ 0
 
+  -- nothing is passed yet
   pub passed-none : (from : ℕ) → Passed from from
   unfolding Passed
   passed-none from i a b = absurd (omega arith)
@@ -283,5 +287,9 @@ begun-more g signs p at j r l h n i d = ⊎-elim
     (eq-or-lt-of-le {n = i} {m = j} (omega arith))
 
 -- the words of the i-th term and of the j-th mask lie inside
-pub bounds : (s m : List ℕ) (n w k i j : ℕ) → Masks s m n w k → i < n → j < k → (i * (w + 1) + (w + 1) ≤ length s) × (j * w + w ≤ length m)
+abbrev pub Inside : List ℕ → List ℕ → ℕ → ℕ → ℕ → Type 0
+Inside store masks w i j = (i * (w + 1) + (w + 1) ≤ length store) × (j * w + w ≤ length masks)
+
+-- where there are n terms and k masks
+pub bounds : (s m : List ℕ) (n w k i j : ℕ) → Masks s m n w k → i < n → j < k → Inside s m w i j
 bounds s m n w k i j h li lj = (stride-in i n w (length s) li (h .room), row-in j k w (length m) lj (h .wide))

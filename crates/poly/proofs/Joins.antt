@@ -37,6 +37,7 @@ module _ (g : Gate) (x y : ℕ) (signs : List ℕ) (mask : ℕ → ℕ) (t : Tab
   off-x : variable x ≡ g .v → ⊥
   off-x e = t .x-off (t .x-is ∙ e)
 
+  -- neither of them
   off-y : variable y ≡ g .v → ⊥
   off-y e = t .y-off (t .y-is ∙ e)
 

@@ -13,12 +13,13 @@ use Rattle.rules.specs.Each.{sum, joined}
 use Rattle.rules.specs.Polynomial.{Polynomial, coefficient-at, Below, Under, gather}
 use Rattle.rules.proofs.Indices.{sum-same}
 use Rattle.rules.proofs.Terms.{weaken}
-use Rattle.words.specs.Numbers.{num}
+use Rattle.words.specs.Numbers.{num, words-at, masked}
 use Rattle.words.specs.Stored.{decoded}
-use Rattle.words.proofs.Stored.{decoded-more}
-use Rattle.poly.specs.Streams.{weight, stream, streams, rest, rank, Lows, Next, Loaded, Swept, Emitted, Merged, Behind}
+use Rattle.words.proofs.Numbers.{length-masked}
+use Rattle.words.proofs.Stored.{decoded-more, length-decoded, stride-le}
+use Rattle.poly.specs.Streams.{weight, stream, streams, rest, rank, mask-at, Lows, Masks, Next, Loaded, Swept, Emitted, Merged, Behind}
 use Rattle.poly.specs.declared.streams.Gate.{Gate}
-use Rattle.poly.proofs.Flow.{stream-some, stream-end, stream-pass, rank-end, rank-live}
+use Rattle.poly.proofs.Flow.{stream-some, stream-end, stream-pass, rank-end, rank-live, key-num, bounds}
 use Rattle.poly.proofs.Fronts.{floor, Merging, under-joined, coefficient-joined, sum-less, merge-front, merge-skip, merge-take, joined-none}
 
 -- no term, no coefficient
@@ -198,3 +199,51 @@ module _ (g : Gate) (signs : List ℕ) (mask : ℕ → ℕ) (p : Polynomial) (hi
     -- and it ends: what is left to pass in all streams
     pub go-less : getD at b 0 < length p → sum k (λ i. length p - getD at′ i 0) < sum k (λ i. length p - getD at i 0)
     go-less d = sum-less k b (λ i. length p - getD at i 0) (λ i. length p - getD at′ i 0) (λ i q. omega (arith, sw .grows i q)) lb (omega (arith, sw .moved b lb e, h .loaded b lb .0))
+
+-- the words of the set at the head of stream b
+abbrev pub head-words : ℕ → List ℕ → List ℕ → List ℕ → ℕ → List ℕ
+head-words w store masks at b = masked (words-at store (getD at b 0 * (w + 1) + 1) w) (words-at masks (b * w) w)
+
+-- a turn in words: of k streams, b has the largest set at its head
+module _ (store masks signs : List ℕ) (n w k limit : ℕ) (g : Gate) (mk : Masks store masks n w k)
+    (fs : (x : ℕ) → getD store x 0 < 2 ^ 64) (fm : (x : ℕ) → getD masks x 0 < 2 ^ 64)
+    (fall : Lows (2 ^ (64 * w)) k (λ j. stream g signs (mask-at w masks) j (decoded w n store)))
+    (o b : ℕ) (scratch at : List ℕ) (lo : o ≤ limit) (h : Going g signs (mask-at w masks) (decoded w n store) (2 ^ (64 * w)) k limit o (decoded w o scratch) at)
+    (best : (i : ℕ) → i < k → rank (mask-at w masks) (decoded w n store) at i ≤ rank (mask-at w masks) (decoded w n store) at b) (lb : b < k) (live : getD at b 0 < n) where
+  -- the rank of that head, from its words
+  head-rank : rank (mask-at w masks) (decoded w n store) at b ≡ suc (num (head-words w store masks at b))
+  head-rank =
+      rank-live (mask-at w masks) (decoded w n store) at b (omega (arith, length-decoded w n store))
+      ∙ ap suc (key-num store masks n w (getD at b 0) b k live (mk .room) lb (mk .wide) fs fm)
+
+  -- no stream has a larger set
+  pub turn-high : (i : ℕ) → i < k → Below (suc (num (head-words w store masks at b))) (rest g signs (mask-at w masks) (decoded w n store) at i)
+  turn-high = go-high g signs (mask-at w masks) (decoded w n store) (2 ^ (64 * w)) k fall limit o b (num (head-words w store masks at b)) (decoded w o scratch) at lo h best head-rank
+
+  module _ (c o′ : ℕ) (scratch₀ scratch′ at′ : List ℕ) (room : limit * (w + 1) ≤ length scratch) (sw : Swept g signs (mask-at w masks) (decoded w n store) (num (head-words w store masks at b)) k at at′ c)
+      (em : Emitted w o limit c (head-words w store masks at b) scratch scratch′ o′) where
+    -- they are w words
+    words-length : length (head-words w store masks at b) ≡ w
+    words-length =
+        let r = bounds store masks n w k (getD at b 0) b mk live lb in
+        length-masked store masks (getD at b 0 * (w + 1) + 1) (b * w) w (omega arith) (r .1)
+
+    -- what is written lies inside
+    written : o * (w + 1) ≤ length scratch
+    written = stride-le o limit w (length scratch) lo room
+
+    -- what the turn wrote, as terms
+    terms : Grown o limit c (num (head-words w store masks at b)) (decoded w o scratch) (decoded w o′ scratch′) o′
+    terms = grown w o limit c o′ (head-words w store masks at b) scratch scratch′ written words-length em
+
+    -- the state after the turn
+    pub turn-on : Going g signs (mask-at w masks) (decoded w n store) (2 ^ (64 * w)) k limit o′ (decoded w o′ scratch′) at′
+    turn-on = go-on g signs (mask-at w masks) (decoded w n store) (2 ^ (64 * w)) k fall limit o o′ b (num (head-words w store masks at b)) c (decoded w o scratch) (decoded w o′ scratch′) at at′ lo h lb head-rank sw terms (length-decoded w o′ scratch′)
+
+    -- no word behind it has changed
+    pub turn-behind : Behind w limit o scratch₀ scratch → Behind w limit o′ scratch₀ scratch′
+    turn-behind kept = behind-more w o limit c o′ (head-words w store masks at b) scratch₀ scratch scratch′ lo written words-length kept em
+
+    -- less is left
+    pub turn-less : sum k (λ i. length (decoded w n store) - getD at′ i 0) < sum k (λ i. length (decoded w n store) - getD at i 0)
+    turn-less = go-less g signs (mask-at w masks) (decoded w n store) (2 ^ (64 * w)) k fall limit o o′ b (num (head-words w store masks at b)) c (decoded w o scratch) (decoded w o′ scratch′) at at′ lo h lb head-rank sw terms (length-decoded w o′ scratch′) (omega (arith, length-decoded w n store))

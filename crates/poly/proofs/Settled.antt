@@ -22,7 +22,7 @@ use Rattle.words.proofs.Stored.{decoded-at, length-decoded, stride-le}
 use Rattle.words.proofs.Encoded.{length-polynomial-words, words-decoded, decoded-stored, zeros-behind}
 use Rattle.poly.specs.Signs.{Apart}
 use Rattle.poly.specs.Streams.{Emitted}
-use Rattle.poly.specs.Stepping.{occurs-in, Gathered, Replaced, Ready, Stepped}
+use Rattle.poly.specs.Stepping.{occurs-in, Gathered, Prepared, Ready, Stepped}
 use Rattle.poly.specs.declared.gates.Pair.{Pair}
 use Rattle.poly.proofs.Replacing.{step-alike, step-absent, step-below}
 use Rattle.poly.proofs.Tables.{small-of, drop-zeros}
@@ -130,7 +130,7 @@ module _ (w l v x y limit held : ℕ) (store scratch : List ℕ) (h : Ready w l 
   room = stride-le held limit w (length store) (h .held-most) (h .store-room)
 
   -- what the step of their gate asks
-  pub to-replace : Replaced store held w (record { v = v; x = p .x / 2; y = p .y / 2; l = l }) (p .x) (p .y) scratch limit
+  pub to-replace : Prepared store held w (record { v = v; x = p .x / 2; y = p .y / 2; l = l }) (p .x) (p .y) scratch limit
   unfolding variable
   to-replace = record {
     fit = record {

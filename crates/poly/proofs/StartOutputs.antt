@@ -8,7 +8,7 @@ use native.Mathlib.Omega.{arith}
 use lib.Dec.{ltb}
 use lib.Pow.{pow-pos, pow-lt}
 use borrow.Author.Tests.{ltb-true, ltb-false, leb-true}
-use Rattle.rules.specs.Each.{each, sum, joined}
+use Rattle.rules.specs.Each.{sum, joined}
 use Rattle.rules.specs.Netlist.{variable, inverted, output, output-sound, table-sound}
 use Rattle.rules.specs.Values.{bit}
 use Rattle.rules.specs.Polynomial.{Polynomial, hit, coefficient-at, with-variable, times-variable, times-literal}

@@ -14,7 +14,7 @@ use borrow.Author.Tests.{eqb-true, eqb-false}
 use Rattle.rules.specs.Each.{joined}
 use Rattle.rules.specs.Netlist.{variable, inverted, output}
 use Rattle.rules.specs.Polynomial.{Polynomial, coefficient-at, times-literal}
-use Rattle.rules.specs.Product.{Kind, plain, truncated, kind-of}
+use Rattle.rules.specs.Product.{Kind, kind-of}
 use Rattle.rules.specs.Steps.{below-zero, product-term}
 use Rattle.rules.proofs.Terms.{hit-same, hit-other, coefficient-append}
 use Rattle.words.proofs.Numbers.{one-shifted}

@@ -19,7 +19,7 @@ use Rattle.words.specs.Stored.{decoded}
 use Rattle.words.proofs.Numbers.{turned-set}
 use Rattle.words.proofs.Stored.{decoded-at, length-decoded}
 use Rattle.poly.specs.Signs.{factor, sign-product, if-held, sign, sign-at, mask-of, Apart}
-use Rattle.poly.specs.Streams.{mask-at, Lows, Held, Turned, Tables, Merged, stream, streams}
+use Rattle.poly.specs.Streams.{mask-at, turned-by, Lows, Held, Turned, Masked, Tables, Merged, stream, streams}
 use Rattle.poly.specs.Stepping.{Fit, Gathered}
 use Rattle.poly.specs.declared.streams.Gate.{Gate}
 use Rattle.poly.proofs.Joins.{step-streams, stream-falls}
@@ -84,39 +84,53 @@ module _ (m : List ℕ) (j w v x : ℕ) (h : j * w + w ≤ length m) (l : v < 64
       less (suc a) zero = inr (omega arith)
       less (suc a) (suc b) = ⊎-elim (λ (q : a ≤ b). inl (omega arith)) (λ (q : b < a). inr (omega arith)) (less a b)
 
+-- nothing is turned
+pub mask-stays : (m : List ℕ) (w j v d : ℕ) → d ≡ 0 → Turned w j v d m m
+unfolding turned-by
+mask-stays m w j v d e = record { here = rw e; there = λ i n. refl }
+
 -- a variable turned in the j-th mask
-pub mask-turned : (m m′ : List ℕ) (j w v : ℕ) → j * w + w ≤ length m → ((n : ℕ) → getD m n 0 < 2 ^ 64) → v < 64 * w
-    → m′ ≡ set m (j * w + v / 64) (bitXor (getD m (j * w + v / 64) 0) (2 ^ (v % 64))) → Turned w j v m m′
-unfolding mask-at
-mask-turned m m′ j w v h f l e = record {
+pub mask-turned : (m m′ : List ℕ) (j w v d : ℕ) → j * w + w ≤ length m → ((n : ℕ) → getD m n 0 < 2 ^ 64) → v < 64 * w → (d ≡ 0 → ⊥)
+    → m′ ≡ set m (j * w + v / 64) (bitXor (getD m (j * w + v / 64) 0) (2 ^ (v % 64))) → Turned w j v d m m′
+unfolding mask-at turned-by
+mask-turned m m′ j w v zero h f l nz e = absurd (nz refl)
+mask-turned m m′ j w v (suc d) h f l nz e = record {
   here = rw e (turned-set m (j * w) w v h f l);
   there = λ i n. rw e (others-stay m j w v (bitXor (getD m (j * w + v / 64) 0) (2 ^ (v % 64))) h l i n);
 }
 
--- the masks of a gate, one turn after the other
-pub masks-made : (w v x y : ℕ) (m0 m1 m2 m3 m4 m5 m6 m7 m8 : List ℕ) → ((j : ℕ) → j < 5 → mask-at w m0 j ≡ 0)
-    → Turned w 0 v m0 m1 → Turned w 1 v m1 m2 → Turned w 1 x m2 m3 → Turned w 2 v m3 m4 → Turned w 2 y m4 m5 → Turned w 3 v m5 m6 → Turned w 3 y m6 m7 → Turned w 3 x m7 m8
-    → (j : ℕ) → j < 5 → mask-at w m8 j ≡ mask-of v x y j
+-- three turns make the mask of a stream
+turns : (v x y j : ℕ) → j < 4 → turned-by (j % 2) (turned-by (j / 2) (turned-by 1 0 v) y) x ≡ mask-of v x y j
+unfolding mask-of turned-by
+turns v x y zero l = refl
+turns v x y (suc zero) l = refl
+turns v x y (suc (suc zero)) l = refl
+turns v x y (suc (suc (suc zero))) l = refl
+turns v x y (suc (suc (suc (suc j)))) l = absurd (omega arith)
+
+-- from a mask of zeros
+pub mask-made : (w v x y j : ℕ) (m0 m1 m2 m3 : List ℕ) → j < 4 → mask-at w m0 j ≡ 0 → Turned w j v 1 m0 m1 → Turned w j y (j / 2) m1 m2 → Turned w j x (j % 2) m2 m3
+    → Masked w v x y j m0 m3
+mask-made w v x y j m0 m1 m2 m3 l z t1 t2 t3 = record {
+  here = rw (t3 .here, t2 .here, t1 .here, z) (turns v x y j l);
+  there = λ i n. t3 .there i n ∙ t2 .there i n ∙ t1 .there i n;
+}
+
+-- the masks made so far, and zeros
+abbrev pub Making : ℕ → ℕ → ℕ → ℕ → ℕ → List ℕ → Type 0
+Making w v x y j m = ((i : ℕ) → i < j → mask-at w m i ≡ mask-of v x y i) × ((i : ℕ) → j ≤ i → i < 5 → mask-at w m i ≡ 0)
+
+-- one more mask
+pub making-more : (w v x y j : ℕ) (m m′ : List ℕ) → Making w v x y j m → Masked w v x y j m m′ → Making w v x y (j + 1) m′
+making-more w v x y j m m′ h t = (
+  (λ i l. ⊎-elim (λ (e : i ≡ j). rw e (t .here)) (λ (d : i < j). t .there i (λ e. omega arith) ∙ h .0 i d) (eq-or-lt-of-le {n = i} {m = j} (omega arith))),
+  (λ i a b. t .there i (λ e. omega arith) ∙ h .1 i (omega arith) b),
+)
+
+-- all masks; the last is zeros
+pub making-all : (w v x y : ℕ) (m : List ℕ) → Making w v x y 4 m → (j : ℕ) → j < 5 → mask-at w m j ≡ mask-of v x y j
 unfolding mask-of
-masks-made w v x y m0 m1 m2 m3 m4 m5 m6 m7 m8 z t1 t2 t3 t4 t5 t6 t7 t8 zero l =
-    t8 .there 0 (λ e. omega arith) ∙ t7 .there 0 (λ e. omega arith) ∙ t6 .there 0 (λ e. omega arith) ∙ t5 .there 0 (λ e. omega arith)
-    ∙ t4 .there 0 (λ e. omega arith) ∙ t3 .there 0 (λ e. omega arith) ∙ t2 .there 0 (λ e. omega arith) ∙ t1 .here
-    ∙ ap (λ (n : ℕ). bitXor n (2 ^ v)) (z 0 l)
-masks-made w v x y m0 m1 m2 m3 m4 m5 m6 m7 m8 z t1 t2 t3 t4 t5 t6 t7 t8 (suc zero) l =
-    t8 .there 1 (λ e. omega arith) ∙ t7 .there 1 (λ e. omega arith) ∙ t6 .there 1 (λ e. omega arith) ∙ t5 .there 1 (λ e. omega arith)
-    ∙ t4 .there 1 (λ e. omega arith) ∙ t3 .here
-    ∙ ap (λ (n : ℕ). bitXor n (2 ^ x)) (t2 .here ∙ ap (λ (n : ℕ). bitXor n (2 ^ v)) (t1 .there 1 (λ e. omega arith) ∙ z 1 l))
-masks-made w v x y m0 m1 m2 m3 m4 m5 m6 m7 m8 z t1 t2 t3 t4 t5 t6 t7 t8 (suc (suc zero)) l =
-    t8 .there 2 (λ e. omega arith) ∙ t7 .there 2 (λ e. omega arith) ∙ t6 .there 2 (λ e. omega arith) ∙ t5 .here
-    ∙ ap (λ (n : ℕ). bitXor n (2 ^ y)) (t4 .here ∙ ap (λ (n : ℕ). bitXor n (2 ^ v)) (t3 .there 2 (λ e. omega arith) ∙ t2 .there 2 (λ e. omega arith) ∙ t1 .there 2 (λ e. omega arith) ∙ z 2 l))
-masks-made w v x y m0 m1 m2 m3 m4 m5 m6 m7 m8 z t1 t2 t3 t4 t5 t6 t7 t8 (suc (suc (suc zero))) l =
-    t8 .here
-    ∙ ap (λ (n : ℕ). bitXor n (2 ^ x)) (t7 .here ∙ ap (λ (n : ℕ). bitXor n (2 ^ y)) (t6 .here ∙ ap (λ (n : ℕ). bitXor n (2 ^ v))
-    (t5 .there 3 (λ e. omega arith) ∙ t4 .there 3 (λ e. omega arith) ∙ t3 .there 3 (λ e. omega arith) ∙ t2 .there 3 (λ e. omega arith) ∙ t1 .there 3 (λ e. omega arith) ∙ z 3 l)))
-masks-made w v x y m0 m1 m2 m3 m4 m5 m6 m7 m8 z t1 t2 t3 t4 t5 t6 t7 t8 (suc (suc (suc (suc zero)))) l =
-    t8 .there 4 (λ e. omega arith) ∙ t7 .there 4 (λ e. omega arith) ∙ t6 .there 4 (λ e. omega arith) ∙ t5 .there 4 (λ e. omega arith)
-    ∙ t4 .there 4 (λ e. omega arith) ∙ t3 .there 4 (λ e. omega arith) ∙ t2 .there 4 (λ e. omega arith) ∙ t1 .there 4 (λ e. omega arith) ∙ z 4 l
-masks-made w v x y m0 m1 m2 m3 m4 m5 m6 m7 m8 z t1 t2 t3 t4 t5 t6 t7 t8 (suc (suc (suc (suc (suc j))))) l = absurd (omega arith)
+making-all w v x y m h j l = ⊎-elim (λ (e : j ≡ 4). rw e (h .1 4 (omega arith) (omega arith))) (λ (d : j < 4). h .0 j d) (eq-or-lt-of-le {n = j} {m = 4} (omega arith))
 
 -- words of zeros are 0
 num-zeros : (n : ℕ) → num (replicate n 0) ≡ 0

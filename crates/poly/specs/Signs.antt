@@ -23,8 +23,8 @@ sign-product (suc (suc a)) zero = 0
 sign-product (suc (suc a)) (suc zero) = 2
 sign-product (suc (suc a)) (suc (suc b)) = 1
 
--- the sign of a literal, from its variable and whether it is inverted, for a term that holds the variable (r) or not, and
--- a stream that puts it in (d) or not; variable 0 is false
+-- the sign of a literal c0 + c1·x, from its variable and whether it is inverted, for a term that holds the variable (r) or not,
+-- and a stream that puts it in (d) or not: c0 or c1 where x is not there, c0 + c1 where it is; variable 0 is false
 unfoldable pub factor : ℕ → ℕ → ℕ → ℕ → ℕ
 factor zero zero r d = 0
 factor zero (suc n) r zero = 1

@@ -40,7 +40,7 @@ pub record Gathered (limit : ℕ) (q out : Polynomial) (r : ℕ) : Type 0 where
   pub full : limit < r → limit < length q
 
 -- and there is room for `limit` terms in store and scratch, with zeros in both wherever no term is
-pub record Replaced (store : List ℕ) (n w : ℕ) (g : Gate) (x y : ℕ) (scratch : List ℕ) (limit : ℕ) : Type 0 where
+pub record Prepared (store : List ℕ) (n w : ℕ) (g : Gate) (x y : ℕ) (scratch : List ℕ) (limit : ℕ) : Type 0 where
   pub fit : Fit store n w g x y
   pub store-room : limit * (w + 1) ≤ length store
   pub scratch-room : limit * (w + 1) ≤ length scratch

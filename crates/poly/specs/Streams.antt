@@ -3,7 +3,7 @@
 use mathlib.Core.Path.{_≡_}
 use mathlib.Core.List.{List, [], _∷_, _++_}
 use mathlib.Core.Bool.{cond}
-use Prim.Native.Nat.{ℕ, suc, _+_, _*_, _%_, _^_, _<_, _≤_}
+use Prim.Native.Nat.{ℕ, zero, suc, _+_, _*_, _%_, _^_, _<_, _≤_}
 use lib.Dec.{ltb}
 use lib.Bits.{bitXor}
 use lib.ListN.{length, getD, take, drop}
@@ -118,9 +118,19 @@ pub record Behind (w limit r : ℕ) (d d′ : List ℕ) : Type 0 where
   pub few : r ≤ limit → drop (r * (w + 1)) d′ ≡ drop (r * (w + 1)) d
   pub many : limit < r → drop (limit * (w + 1)) d′ ≡ drop (limit * (w + 1)) d
 
--- v was turned in the j-th mask, and the others are as they were
-pub record Turned (w j v : ℕ) (m m′ : List ℕ) : Type 0 where
-  pub here : mask-at w m′ j ≡ bitXor (mask-at w m j) (2 ^ v)
+-- a set with v turned in it, where d is not 0
+unfoldable pub turned-by : ℕ → ℕ → ℕ → ℕ
+turned-by zero s v = s
+turned-by (suc d) s v = bitXor s (2 ^ v)
+
+-- v was so turned in the j-th mask, and the others are as they were
+pub record Turned (w j v d : ℕ) (m m′ : List ℕ) : Type 0 where
+  pub here : mask-at w m′ j ≡ turned-by d (mask-at w m j) v
+  pub there : (i : ℕ) → (i ≡ j → ⊥) → mask-at w m′ i ≡ mask-at w m i
+
+-- the j-th mask is that of stream j, and the others are as they were
+pub record Masked (w v x y j : ℕ) (m m′ : List ℕ) : Type 0 where
+  pub here : mask-at w m′ j ≡ mask-of v x y j
   pub there : (i : ℕ) → (i ≡ j → ⊥) → mask-at w m′ i ≡ mask-at w m i
 
 -- the tables are those of the product of the literals x and y, over two variables that are not v, or 0

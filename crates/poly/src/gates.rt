@@ -4,7 +4,7 @@ ghost use Prim.Native.Nat.{ℕ, _+_, _*_, _<_, _≤_};
 ghost use lib.ListN.{length, getD};
 ghost use Rattle.rules.specs.Netlist.{variable, inverted};
 ghost use Rattle.poly.specs.Signs.{factor, sign-product, sign-at, mask-of, Apart};
-ghost use Rattle.poly.specs.Streams.{mask-at, Turned};
+ghost use Rattle.poly.specs.Streams.{mask-at, Turned, Masked};
 
 // Two literals whose variables are distinct, or 0 for a constant.
 pub struct Pair {
@@ -112,25 +112,35 @@ pub fn sign_table(signs: &mut [u8], x: u32, y: u32)
     }
 }
 
-// Turns v in the j-th mask.
-fn turn_mask(masks: &mut [u64], j: usize, w: usize, v: usize)
+// Turns v in the j-th mask where d is not 0.
+fn turn_mask(masks: &mut [u64], j: usize, w: usize, v: usize, d: usize)
     requires { ⌜ (j * w + w ≤ length (now masks)) × (v < 64 * w) ⌝ }
-    ensures { λ r. ⌜ Turned w j v (now (masks .entry)) (now (masks .exit)) ⌝ }
+    ensures { λ r. ⌜ Turned w j v d (now (masks .entry)) (now (masks .exit)) ⌝ }
 {
+    if d == 0 {
+        return;
+    }
     words::sets::turn(masks, j * w, w, v);
 }
 
-// The five masks of gate v over the variables x and y.
+// The mask of stream j, from a mask of zeros: v goes out, and x and y come in where the stream puts them in.
+fn mask(masks: &mut [u64], j: usize, w: usize, v: usize, x: usize, y: usize)
+    requires { ⌜ (j * w + w ≤ length (now masks)) × (v < 64 * w) × (x < 64 * w) × (y < 64 * w) × (j < 4) × (mask-at w (now masks) j ≡ 0) ⌝ }
+    ensures { λ r. ⌜ Masked w v x y j (now (masks .entry)) (now (masks .exit)) ⌝ }
+{
+    turn_mask(masks, j, w, v, 1);
+    turn_mask(masks, j, w, y, j / 2);
+    turn_mask(masks, j, w, x, j % 2);
+}
+
+// The masks of gate v over the variables x and y; the last stream changes nothing.
 pub fn mask_table(masks: &mut [u64], w: usize, v: usize, x: usize, y: usize)
     requires { ⌜ (5 * w ≤ length (now masks)) × (v < 64 * w) × (x < 64 * w) × (y < 64 * w) × ((j : ℕ) → j < 5 → mask-at w (now masks) j ≡ 0) ⌝ }
     ensures { λ r. ⌜ ((j : ℕ) → j < 5 → mask-at w (now (masks .exit)) j ≡ mask-of v x y j) ⌝ }
 {
-    turn_mask(masks, 0, w, v);
-    turn_mask(masks, 1, w, v);
-    turn_mask(masks, 1, w, x);
-    turn_mask(masks, 2, w, v);
-    turn_mask(masks, 2, w, y);
-    turn_mask(masks, 3, w, v);
-    turn_mask(masks, 3, w, y);
-    turn_mask(masks, 3, w, x);
+    let mut j = 0;
+    while j < 4 {
+        mask(masks, j, w, v, x, y);
+        j += 1;
+    }
 }

@@ -9,7 +9,7 @@ ghost use Rattle.rules.specs.Polynomial.{gather};
 ghost use Rattle.rules.specs.Steps.{all-replaced};
 ghost use Rattle.words.specs.Stored.{decoded};
 ghost use Rattle.poly.specs.Streams.{Behind};
-ghost use Rattle.poly.specs.Stepping.{occurs-in, Fit, Gathered, Ready, Replaced, Stepped};
+ghost use Rattle.poly.specs.Stepping.{occurs-in, Fit, Gathered, Ready, Prepared, Stepped};
 use crate::streams::Gate;
 
 // Whether v is in any term: one look at each.
@@ -88,7 +88,7 @@ fn replace(
     scratch: &mut [u64],
     limit: usize,
 ) -> usize
-    requires { ⌜ Replaced (now store) n w g x y (now scratch) limit ⌝ }
+    requires { ⌜ Prepared (now store) n w g x y (now scratch) limit ⌝ }
     ensures { λ r. ⌜ Stepped w limit (gather (2 ^ g .l) (all-replaced (2 ^ g .l) (g .v) x y (decoded w n (now (store .entry))))) (now (store .entry)) (now (scratch .entry)) r (now (store .exit)) (now (scratch .exit)) ⌝ }
 {
     let r = gathered(store, n, w, g, x, y, scratch, limit);

@@ -46,7 +46,8 @@ kind-wrong-requires : tie.Need-kind-wrong-requires
 unfolding counts-wrong
 kind-wrong-requires c κs =
     let b = c .before .before in
-    not-false (counts-right (c .before .before .before .before .before .before .before .args .c)) (sym (b .before .before .before .counts-wrong .ensures) ∙ b .before .before .if1 .left)
+    let counted = sym (b .before .before .before .counts-wrong .ensures) ∙ b .before .before .if1 .left in
+    not-false (counts-right (b .before .before .before .before .before .args .c)) counted
 
 returns-4 : tie.Need-returns-4
 unfolding block-checks first

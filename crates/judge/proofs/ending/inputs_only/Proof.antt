@@ -55,7 +55,8 @@ loop-again c =
     let s : ℕ = num (words-at (a .store .now) 1 (set-width (a .c))) in
     let v : ℕ = c .before .before .before .before .loop .v in
     let down : v - 1 + 1 ≡ v = omega arith in
-    (omega arith, omega (arith, c .before .before .before .before .loop .inv .1), rw down (gate-absent s v (c .before .before .before .before .loop .inv .2) (λ e. c .if2 .left (c .before .holds .ensures ∙ e))))
+    let inv = c .before .before .before .before .loop .inv in
+    (omega arith, omega (arith, inv .1), rw down (gate-absent s v (inv .2) (λ e. c .if2 .left (c .before .holds .ensures ∙ e))))
 
 returns-2 : tie.Need-returns-2 Inv-loop μ-loop
 returns-2 c =

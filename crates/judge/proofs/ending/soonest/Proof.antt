@@ -26,7 +26,9 @@ halved-requires c κs = half-first (c .before .pre)
 loop-holds : tie.Need-loop-holds Inv-loop μ-loop
 loop-holds c =
     let a = c .before .before .args in
-    (omega arith, omega (arith, c .before .before .pre .some), ap (λ (s : ℕ). soonest s (drop 1 (decoded (a .w) (a .count) (a .store .now)))) (first-whole (c .before .before .pre) _ (c .halved .ensures)))
+    let h = c .before .before .pre in
+    let rest = drop 1 (decoded (a .w) (a .count) (a .store .now)) in
+    (omega arith, omega (arith, h .some), ap (λ (s : ℕ). soonest s rest) (first-whole h _ (c .halved .ensures)))
 
 add-halved : tie.Need-add-halved Inv-loop μ-loop
 add-halved c = omega (arith, half-at (c .before .before .before .before .pre) (c .before .loop .k) (omega arith) .1)

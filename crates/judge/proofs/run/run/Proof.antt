@@ -53,7 +53,8 @@ returns : tie.Need-returns Inv-loop μ-loop
 returns c =
     let t = c .before .before .before .before .before .before in
     let l = t .before .before .before .before .before in
-    going-full (l .loop .inv) (omega arith) (l .before .before .before .before .before .before .before .pre .1) (t .take-turn .ensures) (not-true _ (c .if1 .taken)) _ refl refl refl
+    let p = l .before .before .before .before .before .before .before .pre in
+    going-full (l .loop .inv) (omega arith) (p .1) (t .take-turn .ensures) (not-true _ (c .if1 .taken)) _ refl refl refl
 
 mul-gates : tie.Need-mul-gates Inv-loop μ-loop
 mul-gates c = search needs
@@ -61,7 +62,8 @@ mul-gates c = search needs
 slice-write-gates : tie.Need-slice-write-gates Inv-loop μ-loop
 slice-write-gates c =
     let l = c .before .before .before .before .before .before .before .before .before .before .before in
-    omega (arith, gates-lent (l .loop .inv) (l .before .before .before .before .before .before .before .pre .2), l .before .before .before .before .before .before .before .pre .2)
+    let long = l .before .before .before .before .before .before .before .pre .2 in
+    omega (arith, gates-lent (l .loop .inv) long)
 
 cast-terms : tie.Need-cast-terms Inv-loop μ-loop
 cast-terms c =
@@ -77,7 +79,8 @@ mul-terms c = search needs
 slice-write-terms : tie.Need-slice-write-terms Inv-loop μ-loop
 slice-write-terms c =
     let l = c .before .before .before .before .before .before .before .before .before .before .before .before in
-    omega (arith, terms-lent (l .loop .inv) (l .before .before .before .before .before .before .before .pre .3), l .before .before .before .before .before .before .before .pre .3)
+    let long = l .before .before .before .before .before .before .before .pre .3 in
+    omega (arith, terms-lent (l .loop .inv) long)
 
 add-k : tie.Need-add-k Inv-loop μ-loop
 add-k c = omega arith

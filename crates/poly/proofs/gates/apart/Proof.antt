@@ -1,3 +1,4 @@
+-- Each return is one of the cases of two literals.
 use native.Mathlib.Omega.{arith}
 use Rattle.rules.specs.Netlist.{variable}
 use Rattle.poly.proofs.Tables.{apart-already, apart-against, apart-same}
@@ -6,25 +7,21 @@ use Rattle.poly.proofs.gates.apart.Tie as tie
 use Rattle.poly.proofs.gates.apart.Reads as reads
 use Rattle.poly.proofs.gates.apart.Lts as lts
 
--- src/gates.rt:20:9
 returns : tie.Need-returns
 unfolding variable
 returns c =
     apart-already _ _ (λ e. omega (arith, c .if1 .taken))
 
--- src/gates.rt:23:9
 returns-2 : tie.Need-returns-2
 unfolding variable
 returns-2 c =
     apart-already _ _ (λ e. absurd (c .if2 .taken e))
 
--- src/gates.rt:26:9
 returns-3 : tie.Need-returns-3
 unfolding variable
 returns-3 c =
     apart-against _ _ (c .before .before .if1 .left) (c .before .if2 .left) (c .if3 .taken)
 
--- src/gates.rt:16:1
 returns-4 : tie.Need-returns-4
 unfolding variable
 returns-4 c =

@@ -1,3 +1,4 @@
+-- Each return is one line of the definition.
 use mathlib.Core.Path.{_≡_}
 use Prim.Native.Nat.{suc, _-_, _/_, _%_}
 use native.Mathlib.Omega.{arith}
@@ -8,33 +9,28 @@ use Rattle.poly.proofs.gates.factor.Tie as tie
 use Rattle.poly.proofs.gates.factor.Reads as reads
 use Rattle.poly.proofs.gates.factor.Lts as lts
 
--- src/gates.rt:36:9
 returns : tie.Need-returns
 unfolding factor variable inverted
 returns c =
     rw (c .if1 .taken)
 
--- src/gates.rt:40:13
 returns-2 : tie.Need-returns-2
 unfolding factor variable inverted
 returns-2 c =
     rw (c .before .if2 .taken, c .if3 .taken)
 
--- src/gates.rt:42:9
 returns-3 : tie.Need-returns-3
 unfolding factor variable inverted
 returns-3 c =
     let d : c .before .before .before .args .d ≡ suc (c .before .before .before .args .d - 1) = omega (arith, c .if3 .left) in
     rw (c .before .if2 .taken, d)
 
--- src/gates.rt:47:17
 returns-4 : tie.Need-returns-4
 unfolding factor variable inverted
 returns-4 c =
     let v : c .before .before .before .before .before .args .x / 2 ≡ suc (c .before .before .before .before .before .args .x / 2 - 1) = omega (arith, c .before .before .before .before .if1 .left, c .before .before .before .if2 .left) in
     rw (v, c .before .before .if4 .taken, c .before .if5 .taken, c .if6 .taken)
 
--- src/gates.rt:49:13
 returns-5 : tie.Need-returns-5
 unfolding factor variable inverted
 returns-5 c =
@@ -42,7 +38,6 @@ returns-5 c =
     let d : c .before .before .before .before .before .args .d ≡ suc (c .before .before .before .before .before .args .d - 1) = omega (arith, c .if6 .left) in
     rw (v, c .before .before .if4 .taken, c .before .if5 .taken, d)
 
--- src/gates.rt:52:13
 returns-6 : tie.Need-returns-6
 unfolding factor variable inverted
 returns-6 c =
@@ -50,7 +45,6 @@ returns-6 c =
     let r : c .before .before .before .before .before .args .r ≡ suc (c .before .before .before .before .before .args .r - 1) = omega (arith, c .before .if5 .left) in
     rw (v, c .before .before .if4 .taken, r, c .if7 .taken)
 
--- src/gates.rt:54:9
 returns-7 : tie.Need-returns-7
 unfolding factor variable inverted
 returns-7 c =
@@ -59,7 +53,6 @@ returns-7 c =
     let d : c .before .before .before .before .before .args .d ≡ suc (c .before .before .before .before .before .args .d - 1) = omega (arith, c .if7 .left) in
     rw (v, c .before .before .if4 .taken, r, d)
 
--- src/gates.rt:58:13
 returns-8 : tie.Need-returns-8
 unfolding factor variable inverted
 returns-8 c =
@@ -67,7 +60,6 @@ returns-8 c =
     let i : c .before .before .before .before .before .args .x % 2 ≡ 1 = omega (arith, c .before .before .if4 .left) in
     rw (v, i, c .before .if8 .taken, c .if9 .taken)
 
--- src/gates.rt:60:9
 returns-9 : tie.Need-returns-9
 unfolding factor variable inverted
 returns-9 c =
@@ -76,7 +68,6 @@ returns-9 c =
     let d : c .before .before .before .before .before .args .d ≡ suc (c .before .before .before .before .before .args .d - 1) = omega (arith, c .if9 .left) in
     rw (v, i, c .before .if8 .taken, d)
 
--- src/gates.rt:32:1
 returns-10 : tie.Need-returns-10
 unfolding factor variable inverted
 returns-10 c =

@@ -1,62 +1,69 @@
-use mathlib.Core.Path.{_≡_, _∙_}
+-- One mask after the other.
+use mathlib.Core.Path.{_≡_, refl, _∙_}
+use Prim.Native.Nat.{_-_, _≤_}
 use native.Mathlib.Omega.{arith}
 use lib.ListN.{length}
-use Rattle.poly.proofs.Tables.{masks-made}
-use borrow.Author.Needs.{needs}
+use Rattle.poly.proofs.Flow.{row-in}
+use Rattle.poly.proofs.Tables.{Making, making-more, making-all}
 use Rattle.poly.proofs.gates.mask_table.Statement.{statement}
 use Rattle.poly.proofs.gates.mask_table.Tie as tie
 use Rattle.poly.proofs.gates.mask_table.Reads as reads
 use Rattle.poly.proofs.gates.mask_table.Lts as lts
-use Rattle.poly.proofs.gates.turn_mask.Reads as turn-mask-reads
+use Rattle.poly.proofs.gates.mask.Reads as mask-reads
 
-turn-mask-requires : tie.Need-turn-mask-requires
-turn-mask-requires c κs = search needs
+abbrev Inv-loop : tie.InvT-loop
+Inv-loop masks₀ w v x y j₀ masks j =
+    (j ≤ 4) × (length masks ≡ length masks₀) × Making w v x y j masks
 
-turn-mask-requires-2 : tie.Need-turn-mask-requires-2
-turn-mask-requires-2 c κs = search needs
+abbrev μ-loop : tie.MeasureT-loop
+μ-loop masks₀ w v x y j₀ masks j =
+    4 - j
 
-turn-mask-requires-3 : tie.Need-turn-mask-requires-3
-turn-mask-requires-3 c κs = search needs
+loop-holds : tie.Need-loop-holds Inv-loop μ-loop
+loop-holds c =
+    (omega arith, refl, ((λ i l. absurd (omega arith)), λ i l d. c .before .pre .4 i d))
 
-turn-mask-requires-4 : tie.Need-turn-mask-requires-4
-turn-mask-requires-4 c κs = search needs
+mask-requires : tie.Need-mask-requires Inv-loop μ-loop
+mask-requires c κs =
+    let a = c .before .before .before .before .args in
+    let p = c .before .before .before .before .pre in
+    let l = c .before .before .loop in
+    (rw (l .inv .1) (row-in (l .j) 5 (a .w) (length (a .masks .now)) (omega arith) (p .0)), p .1, p .2, p .3, omega arith, l .inv .2 .1 (l .j) (omega arith) (omega arith))
 
-turn-mask-requires-5 : tie.Need-turn-mask-requires-5
-turn-mask-requires-5 c κs = search needs
+add-j : tie.Need-add-j Inv-loop μ-loop
+add-j c = omega arith
 
-turn-mask-requires-6 : tie.Need-turn-mask-requires-6
-turn-mask-requires-6 c κs = search needs
+loop-less : tie.Need-loop-less Inv-loop μ-loop
+loop-less c = omega arith
 
-turn-mask-requires-7 : tie.Need-turn-mask-requires-7
-turn-mask-requires-7 c κs = search needs
+loop-again : tie.Need-loop-again Inv-loop μ-loop
+loop-again c =
+    let a = c .before .before .before .before .before .before .before .args in
+    let l = c .before .before .before .before .before .loop in
+    let m = c .before .before .mask in
+    (omega arith, m .kept .0 ∙ l .inv .1, making-more (a .w) (a .v) (a .x) (a .y) (l .j) (l .masks) (m .last .0) (l .inv .2) (m .ensures))
 
-turn-mask-requires-8 : tie.Need-turn-mask-requires-8
-turn-mask-requires-8 c κs =
-    let e : length (c .before .before .before .turn-mask7 .last .0) ≡ length (c .before .before .before .before .before .before .before .before .before .before .before .before .before .before .before .before .before .before .before .before .before .before .before .before .before .before .before .before .before .before .args .masks .now) = c .before .before .before .turn-mask7 .kept .0 ∙ c .before .before .before .before .before .before .before .turn-mask6 .kept .0 ∙ c .before .before .before .before .before .before .before .before .before .before .before .turn-mask5 .kept .0 ∙ c .before .before .before .before .before .before .before .before .before .before .before .before .before .before .before .turn-mask4 .kept .0 ∙ c .before .before .before .before .before .before .before .before .before .before .before .before .before .before .before .before .before .before .before .turn-mask3 .kept .0 ∙ c .before .before .before .before .before .before .before .before .before .before .before .before .before .before .before .before .before .before .before .before .before .before .before .turn-mask2 .kept .0 ∙ c .before .before .before .before .before .before .before .before .before .before .before .before .before .before .before .before .before .before .before .before .before .before .before .before .before .before .before .turn-mask .kept .0 in
-    let p = c .before .before .before .before .before .before .before .before .before .before .before .before .before .before .before .before .before .before .before .before .before .before .before .before .before .before .before .before .before .before .pre in
-    (rw e (omega (arith, p .0)), p .2)
-
-same-length : tie.Need-same-length
+same-length : tie.Need-same-length Inv-loop μ-loop
 same-length c =
-    c .before .before .turn-mask8 .kept .0 ∙ c .before .before .before .before .before .before .turn-mask7 .kept .0 ∙ c .before .before .before .before .before .before .before .before .before .before .turn-mask6 .kept .0 ∙ c .before .before .before .before .before .before .before .before .before .before .before .before .before .before .turn-mask5 .kept .0 ∙ c .before .before .before .before .before .before .before .before .before .before .before .before .before .before .before .before .before .before .turn-mask4 .kept .0 ∙ c .before .before .before .before .before .before .before .before .before .before .before .before .before .before .before .before .before .before .before .before .before .before .turn-mask3 .kept .0 ∙ c .before .before .before .before .before .before .before .before .before .before .before .before .before .before .before .before .before .before .before .before .before .before .before .before .before .before .turn-mask2 .kept .0 ∙ c .before .before .before .before .before .before .before .before .before .before .before .before .before .before .before .before .before .before .before .before .before .before .before .before .before .before .before .before .before .before .turn-mask .kept .0
+    c .before .loop .inv .1
 
-returns : tie.Need-returns
+returns : tie.Need-returns Inv-loop μ-loop
 returns c =
-    let a = c .before .before .before .before .before .before .before .before .before .before .before .before .before .before .before .before .before .before .before .before .before .before .before .before .before .before .before .before .before .before .before .before .before .args in
-    masks-made (a .w) (a .v) (a .x) (a .y) (a .masks .now) (c .before .before .before .before .before .before .before .before .before .before .before .before .before .before .before .before .before .before .before .before .before .before .before .before .before .before .before .before .before .before .turn-mask .last .0) (c .before .before .before .before .before .before .before .before .before .before .before .before .before .before .before .before .before .before .before .before .before .before .before .before .before .before .turn-mask2 .last .0) (c .before .before .before .before .before .before .before .before .before .before .before .before .before .before .before .before .before .before .before .before .before .before .turn-mask3 .last .0) (c .before .before .before .before .before .before .before .before .before .before .before .before .before .before .before .before .before .before .turn-mask4 .last .0) (c .before .before .before .before .before .before .before .before .before .before .before .before .before .before .turn-mask5 .last .0) (c .before .before .before .before .before .before .before .before .before .before .turn-mask6 .last .0) (c .before .before .before .before .before .before .turn-mask7 .last .0) (c .before .before .turn-mask8 .last .0) (c .before .before .before .before .before .before .before .before .before .before .before .before .before .before .before .before .before .before .before .before .before .before .before .before .before .before .before .before .before .before .before .before .before .pre .4)
-    (c .before .before .before .before .before .before .before .before .before .before .before .before .before .before .before .before .before .before .before .before .before .before .before .before .before .before .before .before .before .before .turn-mask .ensures) (c .before .before .before .before .before .before .before .before .before .before .before .before .before .before .before .before .before .before .before .before .before .before .before .before .before .before .turn-mask2 .ensures) (c .before .before .before .before .before .before .before .before .before .before .before .before .before .before .before .before .before .before .before .before .before .before .turn-mask3 .ensures) (c .before .before .before .before .before .before .before .before .before .before .before .before .before .before .before .before .before .before .turn-mask4 .ensures) (c .before .before .before .before .before .before .before .before .before .before .before .before .before .before .turn-mask5 .ensures) (c .before .before .before .before .before .before .before .before .before .before .turn-mask6 .ensures) (c .before .before .before .before .before .before .turn-mask7 .ensures) (c .before .before .turn-mask8 .ensures)
+    let a = c .before .before .before .args in
+    let l = c .before .loop in
+    let e : l .j ≡ 4 = omega arith in
+    making-all (a .w) (a .v) (a .x) (a .y) (l .masks) (rw e at (l .inv .2))
 
 pub mask-table-spec : {M : Type 1} → statement M
 mask-table-spec =
     tie.close
     (tie.spec
-    turn-mask-requires
-    turn-mask-requires-2
-    turn-mask-requires-3
-    turn-mask-requires-4
-    turn-mask-requires-5
-    turn-mask-requires-6
-    turn-mask-requires-7
-    turn-mask-requires-8
+    Inv-loop
+    μ-loop
+    loop-holds
+    mask-requires
+    add-j
+    loop-less
+    loop-again
     same-length
     returns)

@@ -1,3 +1,4 @@
+-- Each return is one line of the definition.
 use native.Mathlib.Omega.{arith}
 use mathlib.Core.Path.{_≡_}
 use Prim.Native.Nat.{suc, _-_}
@@ -7,19 +8,16 @@ use Rattle.poly.proofs.gates.product.Tie as tie
 use Rattle.poly.proofs.gates.product.Reads as reads
 use Rattle.poly.proofs.gates.product.Lts as lts
 
--- src/gates.rt:70:9
 returns : tie.Need-returns
 unfolding sign-product
 returns c =
     rw (c .if1 .taken)
 
--- src/gates.rt:73:9
 returns-2 : tie.Need-returns-2
 unfolding sign-product
 returns-2 c =
     rw (c .if2 .taken)
 
--- src/gates.rt:76:9
 returns-3 : tie.Need-returns-3
 unfolding sign-product
 returns-3 c =
@@ -27,14 +25,12 @@ returns-3 c =
     let e : c .before .before .before .args .a ≡ suc (suc (c .before .before .before .args .a - 2)) = omega (arith, c .before .before .if1 .left, c .before .if2 .left) in
     rw (e, c .if3 .taken)
 
--- src/gates.rt:79:9
 returns-4 : tie.Need-returns-4
 unfolding sign-product
 returns-4 c =
     let e : c .before .before .before .before .args .a ≡ suc (suc (c .before .before .before .before .args .a - 2)) = omega (arith, c .before .before .before .if1 .left, c .before .before .if2 .left) in
     rw (e, c .if4 .taken)
 
--- src/gates.rt:66:1
 returns-5 : tie.Need-returns-5
 unfolding sign-product
 returns-5 c =

@@ -1,3 +1,4 @@
+-- The last stream, then the product of the literals' signs.
 use mathlib.Core.Path.{_≡_, sym, _∙_}
 use Prim.Native.Nat.{suc, _-_, _/_, _%_}
 use native.Mathlib.Omega.{arith}
@@ -11,39 +12,32 @@ use Rattle.poly.proofs.gates.sign.Lts as lts
 use Rattle.poly.proofs.gates.factor.Reads as factor-reads
 use Rattle.poly.proofs.gates.product.Reads as product-reads
 
--- src/gates.rt:92:13
 returns : tie.Need-returns
 unfolding sign-at sign if-absent
 returns c =
     rw (c .before .if1 .taken, c .if2 .taken)
 
--- src/gates.rt:94:9
 returns-2 : tie.Need-returns-2
 unfolding sign-at sign if-absent
 returns-2 c =
     let h : c .before .before .args .i / 5 % 2 ≡ suc (c .before .before .args .i / 5 % 2 - 1) = omega (arith, c .if2 .left) in
     rw (c .before .if1 .taken, h)
 
--- src/gates.rt:97:9
 returns-3 : tie.Need-returns-3
 unfolding sign-at if-held
 returns-3 c =
     let i = c .before .before .args .i in
     sym (sign-held _ _ _ _ _ _ (omega (arith, c .before .if1 .left)) ∙ rw (c .if3 .taken))
 
--- src/gates.rt:99:9
 factor-requires : tie.Need-factor-requires
 factor-requires c κs = search needs
 
--- src/gates.rt:100:9
 factor-requires-2 : tie.Need-factor-requires-2
 factor-requires-2 c κs = search needs
 
--- src/gates.rt:101:5
 product-requires : tie.Need-product-requires
 product-requires c κs = search needs
 
--- src/gates.rt:85:1
 returns-4 : tie.Need-returns-4
 unfolding sign-at if-held
 returns-4 c =

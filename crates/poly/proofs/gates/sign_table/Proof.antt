@@ -1,3 +1,4 @@
+-- One entry after the other.
 use mathlib.Core.Path.{_≡_, refl}
 use Prim.Native.Nat.{ℕ, _-_, _<_, _≤_}
 use native.Mathlib.Omega.{arith}
@@ -19,40 +20,32 @@ abbrev μ-loop : tie.MeasureT-loop
 μ-loop signs₀ x y i₀ signs i =
     length signs₀ - i
 
--- src/gates.rt:109:5
 loop-holds : tie.Need-loop-holds Inv-loop μ-loop
 loop-holds c =
     (omega arith, refl, λ j l. absurd (omega arith))
 
--- src/gates.rt:110:20
 sign-requires : tie.Need-sign-requires Inv-loop μ-loop
 sign-requires c κs =
     search needs
 
--- src/gates.rt:110:9
 slice-write-signs : tie.Need-slice-write-signs Inv-loop μ-loop
 slice-write-signs c = omega arith
 
--- src/gates.rt:111:9
 add-i : tie.Need-add-i Inv-loop μ-loop
 add-i c = omega arith
 
--- src/gates.rt:109:5
 loop-less : tie.Need-loop-less Inv-loop μ-loop
 loop-less c = omega arith
 
--- src/gates.rt:109:5
 loop-again : tie.Need-loop-again Inv-loop μ-loop
 loop-again c =
     let a = c .before .before .before .before .args in
     let l = c .before .before .loop in
     (omega arith, simp length-set (l .inv .1), table-more (a .x) (a .y) (l .i) (c .sign .result) (l .signs) (omega arith) (c .sign .ensures) (l .inv .2))
 
--- src/gates.rt:105:1
 same-length : tie.Need-same-length Inv-loop μ-loop
 same-length c = omega arith
 
--- src/gates.rt:105:1
 returns : tie.Need-returns Inv-loop μ-loop
 returns c =
     λ j l. c .before .loop .inv .2 j (omega arith)

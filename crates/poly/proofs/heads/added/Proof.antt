@@ -1,3 +1,4 @@
+-- Each return is one of the signs.
 use mathlib.Core.Path.{sym}
 use native.Mathlib.Nat.{mod-eq-of-lt, add-zero}
 use native.Mathlib.Omega.{arith}
@@ -10,25 +11,20 @@ use Rattle.poly.proofs.heads.added.Lts as lts
 use Rattle.words.proofs.coefficients.difference.Reads as difference-reads
 use Rattle.words.proofs.coefficients.sum.Reads as sum-reads
 
--- src/heads.rt:64:9
 returns : tie.Need-returns
 returns c =
     rw (scale-none _ _ _ (c .if1 .taken), add-zero) (sym (mod-eq-of-lt (omega arith)))
 
--- src/heads.rt:67:9
 sum-requires : tie.Need-sum-requires
 sum-requires c κs = search needs
 
--- src/heads.rt:67:9
 returns-2 : tie.Need-returns-2
 returns-2 c =
     rw (scale-one _ _ _ (c .before .if2 .taken)) (c .sum .ensures)
 
--- src/heads.rt:69:5
 difference-requires : tie.Need-difference-requires
 difference-requires c κs = search needs
 
--- src/heads.rt:59:1
 returns-3 : tie.Need-returns-3
 returns-3 c =
     rw (scale-negated _ _ _ (c .before .before .if1 .left) (c .before .if2 .left)) (c .difference .ensures)

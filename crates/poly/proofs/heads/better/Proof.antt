@@ -1,9 +1,8 @@
-use mathlib.Core.List.{List}
+-- Each return is one of the cases of two heads.
 use mathlib.Core.Path.{sym, _∙_}
-use Prim.Native.Nat.{ℕ, _+_, _*_, _≤_}
 use native.Mathlib.Omega.{arith}
 use lib.ListN.{length, getD}
-use Rattle.poly.proofs.Flow.{bounds, better-end, better-first, better-yes, better-no, read-order}
+use Rattle.poly.proofs.Flow.{Inside, bounds, better-end, better-first, better-yes, better-no, read-order}
 use borrow.Author.Needs.{needs}
 use Rattle.words.specs.declared.sets.Order.the-variants.{Less, Same, More}
 use Rattle.poly.proofs.heads.better.Statement.{statement}
@@ -12,15 +11,14 @@ use Rattle.poly.proofs.heads.better.Reads as reads
 use Rattle.poly.proofs.heads.better.Lts as lts
 use Rattle.words.proofs.sets.compare.Reads as compare-reads
 
-abbrev Room : (s m : List ℕ) (i j w : ℕ) → Type 0
-Room s m i j w = (i * (w + 1) + (w + 1) ≤ length s) × (j * w + w ≤ length m)
-
-head-room : (c : tie.Else2) → Room (c .before .before .before .before .before .before .before .args .store .now) (c .before .before .before .before .before .before .before .args .masks .now) (getD (c .before .before .before .before .before .before .before .args .at .now) (c .before .before .before .before .before .before .before .args .j) 0) (c .before .before .before .before .before .before .before .args .j) (c .before .before .before .before .before .before .before .args .w)
+-- the words of the head of j, and of its mask, lie inside
+head-room : (c : tie.Else2) → Inside (c .before .before .before .before .before .before .before .args .store .now) (c .before .before .before .before .before .before .before .args .masks .now) (c .before .before .before .before .before .before .before .args .w) (getD (c .before .before .before .before .before .before .before .args .at .now) (c .before .before .before .before .before .before .before .args .j) 0) (c .before .before .before .before .before .before .before .args .j)
 head-room c =
     let a = c .before .before .before .before .before .before .before .args in
     bounds (a .store .now) (a .masks .now) (a .n) (a .w) (length (a .at .now)) (getD (a .at .now) (a .j) 0) (a .j) (c .before .before .before .before .before .before .before .pre .0) (c .before .before .if1 .left) (c .before .before .before .before .before .before .before .pre .1)
 
-other-room : (c : tie.Else2) → Room (c .before .before .before .before .before .before .before .args .store .now) (c .before .before .before .before .before .before .before .args .masks .now) (getD (c .before .before .before .before .before .before .before .args .at .now) (c .before .before .before .before .before .before .before .args .b) 0) (c .before .before .before .before .before .before .before .args .b) (c .before .before .before .before .before .before .before .args .w)
+-- and those of b
+other-room : (c : tie.Else2) → Inside (c .before .before .before .before .before .before .before .args .store .now) (c .before .before .before .before .before .before .before .args .masks .now) (c .before .before .before .before .before .before .before .args .w) (getD (c .before .before .before .before .before .before .before .args .at .now) (c .before .before .before .before .before .before .before .args .b) 0) (c .before .before .before .before .before .before .before .args .b)
 other-room c =
     let a = c .before .before .before .before .before .before .before .args in
     bounds (a .store .now) (a .masks .now) (a .n) (a .w) (length (a .at .now)) (getD (a .at .now) (a .b) 0) (a .b) (c .before .before .before .before .before .before .before .pre .0) (c .if2 .left) (c .before .before .before .before .before .before .before .pre .2)

@@ -1,6 +1,5 @@
+-- Each return is one of the cases of a head.
 use mathlib.Core.Path.{sym, _∙_}
-use mathlib.Core.List.{List}
-use Prim.Native.Nat.{ℕ, _+_, _*_, _≤_}
 use native.Mathlib.Nat.{mod-lt}
 use native.Mathlib.Omega.{arith}
 use lib.Pow.{pow-pos}
@@ -9,7 +8,7 @@ use Rattle.words.specs.Numbers.{num, masked, words-at}
 use Rattle.words.specs.Stored.{decoded}
 use Rattle.words.proofs.Stored.{decoded-at, length-decoded}
 use Rattle.poly.specs.Streams.{mask-at, weight}
-use Rattle.poly.proofs.Flow.{bounds, took-end, took-other, took-same, read-order, key-num}
+use Rattle.poly.proofs.Flow.{Inside, bounds, took-end, took-other, took-same, read-order, key-num}
 use borrow.Author.Needs.{needs}
 use Rattle.words.specs.declared.sets.Order.the-variants.{Less, Same, More}
 use Rattle.poly.proofs.heads.take_head.Statement.{statement}
@@ -21,10 +20,8 @@ use Rattle.words.proofs.sets.compare.Reads as compare-reads
 use Rattle.poly.proofs.streams.next.Reads as next-reads
 use Rattle.poly.proofs.streams.sign_of.Reads as sign-of-reads
 
-abbrev Room : (s m : List ℕ) (i j w : ℕ) → Type 0
-Room s m i j w = (i * (w + 1) + (w + 1) ≤ length s) × (j * w + w ≤ length m)
-
-head-room : (c : tie.Else1) → Room (c .before .before .before .before .before .before .args .store .now) (c .before .before .before .before .before .before .args .masks .now) (getD (c .before .before .before .before .before .before .args .at .now) (c .before .before .before .before .before .before .args .j) 0) (c .before .before .before .before .before .before .args .j) (c .before .before .before .before .before .before .args .w)
+-- the words of the head of j, and of its mask, lie inside
+head-room : (c : tie.Else1) → Inside (c .before .before .before .before .before .before .args .store .now) (c .before .before .before .before .before .before .args .masks .now) (c .before .before .before .before .before .before .args .w) (getD (c .before .before .before .before .before .before .args .at .now) (c .before .before .before .before .before .before .args .j) 0) (c .before .before .before .before .before .before .args .j)
 head-room c =
     let a = c .before .before .before .before .before .before .args in
     bounds (a .store .now) (a .masks .now) (a .n) (a .w) (length (a .at .now)) (getD (a .at .now) (a .j) 0) (a .j) (c .before .before .before .before .before .before .pre .1) (c .if1 .left) (c .before .before .before .before .before .before .pre .2)

@@ -1,3 +1,4 @@
+-- Each return is one of the cases of a term.
 use Prim.Native.Nat.{_+_, _*_, _≤_}
 use native.Mathlib.Omega.{arith}
 use lib.ListN.{length}
@@ -17,43 +18,34 @@ room c =
     let a = c .before .before .before .before .before .args in
     stride-in (a .o) (a .limit) (a .w) (length (a .scratch .now)) (omega (arith, c .if2 .left)) (c .before .before .before .before .before .pre .3)
 
--- src/merging.rt:27:9
 returns : tie.Need-returns
 returns c =
     emit-skip _ _ _ _ _ _ (c .if1 .taken)
 
--- src/merging.rt:30:16
 add-result : tie.Need-add-result
 add-result c = search needs
 
--- src/merging.rt:30:9
 returns-2 : tie.Need-returns-2
 returns-2 c =
     emit-full _ _ _ _ _ _ (c .before .if1 .left) (c .if2 .taken)
 
--- src/merging.rt:32:62
 add-write : tie.Need-add-write
 add-write c = search needs
 
--- src/merging.rt:32:57
 mul-write : tie.Need-mul-write
 mul-write c =
     omega (arith, room (c .before))
 
--- src/merging.rt:32:5
 write-requires : tie.Need-write-requires
 write-requires c κs =
     (c .before .before .before .before .before .before .pre .0, c .before .before .before .before .before .before .pre .1, room (c .before))
 
--- src/merging.rt:33:5
 add-result-2 : tie.Need-add-result-2
 add-result-2 c = search needs
 
--- src/merging.rt:12:1
 same-length : tie.Need-same-length
 same-length c = search needs
 
--- src/merging.rt:12:1
 returns-3 : tie.Need-returns-3
 returns-3 c =
     let a = c .before .before .before .before .before .before .before .before .before .args in

@@ -1,3 +1,4 @@
+-- Begin, then run.
 use mathlib.Core.Path.{_≡_}
 use lib.ListN.{length}
 use borrow.Author.Needs.{needs}

@@ -1,17 +1,14 @@
-use mathlib.Core.Path.{_≡_, refl, ap, _∙_}
-use mathlib.Core.List.{List}
-use Prim.Native.Nat.{ℕ, suc, _+_, _-_, _*_, _≤_, _^_}
+-- What is written and what is left of the streams add up to the whole; each turn leaves less.
+use mathlib.Core.Path.{_≡_, refl, _∙_}
+use Prim.Native.Nat.{_-_, _*_, _^_}
 use native.Mathlib.Omega.{arith}
 use lib.ListN.{length, getD}
 use Rattle.rules.specs.Each.{sum}
-use Rattle.words.specs.Numbers.{num, words-at, masked}
 use Rattle.words.specs.Stored.{decoded}
-use Rattle.words.proofs.Stored.{length-decoded, stride-le}
-use Rattle.poly.specs.Streams.{mask-at, rank, Behind}
-use Rattle.words.proofs.Numbers.{length-masked}
-use Rattle.poly.proofs.Flow.{bounds}
-use Rattle.poly.proofs.Flow.{rank-live, key-num}
-use Rattle.poly.proofs.Merges.{Going, Grown, grown, behind-none, behind-more, go-start, go-end, go-full, go-high, go-on, go-less}
+use Rattle.words.proofs.Stored.{length-decoded}
+use Rattle.poly.specs.Streams.{mask-at, Behind}
+use Rattle.poly.proofs.Flow.{Inside, bounds}
+use Rattle.poly.proofs.Merges.{Going, behind-none, go-start, go-end, go-full, turn-high, turn-on, turn-behind, turn-less}
 use Rattle.poly.proofs.merging.run.Statement.{statement}
 use Rattle.poly.proofs.merging.run.Tie as tie
 use Rattle.poly.proofs.merging.run.Reads as reads
@@ -28,18 +25,13 @@ abbrev μ-loop : tie.MeasureT-loop
 μ-loop store n w g signs masks at₀ scratch₀ limit stride out₀ at scratch out =
     sum (length at₀) (λ i. length (decoded w n store) - getD at i 0)
 
-room : (c : tie.Else1 Inv-loop μ-loop) → (getD (c .before .before .before .before .before .loop .at) (c .before .before .best .result) 0 * (c .before .before .before .before .before .before .before .before .before .before .before .args .w + 1) + (c .before .before .before .before .before .before .before .before .before .before .before .args .w + 1) ≤ length (c .before .before .before .before .before .before .before .before .before .before .before .args .store .now)) × ((c .before .before .best .result) * c .before .before .before .before .before .before .before .before .before .before .before .args .w + c .before .before .before .before .before .before .before .before .before .before .before .args .w ≤ length (c .before .before .before .before .before .before .before .before .before .before .before .args .masks .now))
+-- the words of the head of the stream found, and of its mask, lie inside
+room : (c : tie.Else1 Inv-loop μ-loop) → Inside (c .before .before .before .before .before .before .before .before .before .before .before .args .store .now) (c .before .before .before .before .before .before .before .before .before .before .before .args .masks .now) (c .before .before .before .before .before .before .before .before .before .before .before .args .w) (getD (c .before .before .before .before .before .loop .at) (c .before .before .best .result) 0) (c .before .before .best .result)
 room c =
     let a = c .before .before .before .before .before .before .before .before .before .before .before .args in
+    let p = c .before .before .before .before .before .before .before .before .before .before .before .pre in
     let l = c .before .before .before .before .before .loop in
-    bounds (a .store .now) (a .masks .now) (a .n) (a .w) (length (a .at .now)) (getD (l .at) (c .before .before .best .result) 0) (c .before .before .best .result) (c .before .before .before .before .before .before .before .before .before .before .before .pre .1) (c .if1 .left) (rw (l .inv .0) at (c .before .before .best .ensures .0))
-
-head-rank : (c : tie.Else1 Inv-loop μ-loop) → rank (mask-at (c .before .before .before .before .before .before .before .before .before .before .before .args .w) (c .before .before .before .before .before .before .before .before .before .before .before .args .masks .now)) (decoded (c .before .before .before .before .before .before .before .before .before .before .before .args .w) (c .before .before .before .before .before .before .before .before .before .before .before .args .n) (c .before .before .before .before .before .before .before .before .before .before .before .args .store .now)) (c .before .before .before .before .before .loop .at) (c .before .before .best .result) ≡ suc (num (masked (words-at (c .before .before .before .before .before .before .before .before .before .before .before .args .store .now) (getD (c .before .before .before .before .before .loop .at) (c .before .before .best .result) 0 * (c .before .before .before .before .before .before .before .before .before .before .before .args .w + 1) + 1) (c .before .before .before .before .before .before .before .before .before .before .before .args .w)) (words-at (c .before .before .before .before .before .before .before .before .before .before .before .args .masks .now) ((c .before .before .best .result) * c .before .before .before .before .before .before .before .before .before .before .before .args .w) (c .before .before .before .before .before .before .before .before .before .before .before .args .w))))
-head-rank c =
-    let a = c .before .before .before .before .before .before .before .before .before .before .before .args in
-    let l = c .before .before .before .before .before .loop in
-    rank-live (mask-at (a .w) (a .masks .now)) (decoded (a .w) (a .n) (a .store .now)) (l .at) (c .before .before .best .result) (omega (arith, c .if1 .left, length-decoded (a .w) (a .n) (a .store .now)))
-    ∙ ap suc (key-num (a .store .now) (a .masks .now) (a .n) (a .w) (getD (l .at) (c .before .before .best .result) 0) (c .before .before .best .result) (length (a .at .now)) (c .if1 .left) (c .before .before .before .before .before .before .before .before .before .before .before .pre .0 .room) (rw (l .inv .0) at (c .before .before .best .ensures .0)) (c .before .before .before .before .before .before .before .before .before .before .before .pre .1 .wide) (λ x. c .before .before .before .before .before .before .before .before .before .before .shared-slice-known .given x .fits) (λ x. c .before .before .before .before .before .before .before .before .shared-slice-known3 .given x .fits))
+    bounds (a .store .now) (a .masks .now) (a .n) (a .w) (length (a .at .now)) (getD (l .at) (c .before .before .best .result) 0) (c .before .before .best .result) (p .1) (c .if1 .left) (rw (l .inv .0) at (c .before .before .best .ensures .0))
 
 add-stride : tie.Need-add-stride Inv-loop μ-loop
 add-stride c =
@@ -97,43 +89,24 @@ sweep-requires c κs =
     let a = c .before .before .before .before .before .before .before .before .before .before .before .before .args in
     let p = c .before .before .before .before .before .before .before .before .before .before .before .before .pre in
     let l = c .before .before .before .before .before .before .loop in
-    let b = room (c .before) in
-    let k = l .inv .0 in
-    (p .0, rw k (p .1), rw k (p .3), omega (arith, b), b .1, λ i d. l .inv .2 .loaded i (rw k at d), λ i d. go-high (a .g) (a .signs .now) (mask-at (a .w) (a .masks .now)) (decoded (a .w) (a .n) (a .store .now)) (2 ^ (64 * a .w)) (length (a .at .now)) (p .5) (a .limit) (l .out) (c .before .before .before .best .result) (num (masked (words-at (a .store .now) (getD (l .at) (c .before .before .before .best .result) 0 * (a .w + 1) + 1) (a .w)) (words-at (a .masks .now) (c .before .before .before .best .result * a .w) (a .w)))) (decoded (a .w) (l .out) (l .scratch)) (l .at) (c .before .before .before .before .before .loop-test .taken) (l .inv .2) (λ i d. c .before .before .before .best .ensures .1 i (rw k d)) (head-rank (c .before)) i (rw k at d))
+    let r = room (c .before) in
+    let k = l .inv .0 in (
+      p .0,
+      rw k (p .1),
+      rw k (p .3),
+      omega (arith, r),
+      r .1,
+      λ i d. l .inv .2 .loaded i (rw k at d),
+      λ i d. turn-high (a .store .now) (a .masks .now) (a .signs .now) (a .n) (a .w) (length (a .at .now)) (a .limit) (a .g) (p .1) (λ x. c .before .before .before .before .before .before .before .before .before .before .before .shared-slice-known .given x .fits) (λ x. c .before .before .before .before .before .before .before .before .before .shared-slice-known3 .given x .fits) (p .5) (l .out) (c .before .before .before .best .result) (l .scratch) (l .at) (c .before .before .before .before .before .loop-test .taken) (l .inv .2) (λ i d. c .before .before .before .best .ensures .1 i (rw (l .inv .0) d)) (rw (l .inv .0) at (c .before .before .before .best .ensures .0)) (c .before .if1 .left) i (rw k at d),
+    )
 
 emit-requires : tie.Need-emit-requires Inv-loop μ-loop
 emit-requires c κs =
+    let a = c .before .before .before .before .before .before .before .before .before .before .before .before .before .before .before .before .args in
     let p = c .before .before .before .before .before .before .before .before .before .before .before .before .before .before .before .before .pre in
     let l = c .before .before .before .before .before .before .before .before .before .before .loop in
-    let b = room (c .before .before .before .before .before) in
-    (omega (arith, b), b .1, c .before .before .before .before .before .before .before .before .before .loop-test .taken, rw (l .inv .1) (p .4), p .0 .narrow)
-
--- the set of the turn, in words
-abbrev set-of : (c : tie.After-slice-known5 Inv-loop μ-loop) → List ℕ
-set-of c =
-    let a = c .before .before .before .before .before .before .before .before .before .before .before .before .before .before .before .before .before .before .before .args in
-    let l = c .before .before .before .before .before .before .before .before .before .before .before .before .before .loop in
-    masked (words-at (a .store .now) (getD (l .at) (c .before .before .before .before .before .before .before .before .before .before .best .result) 0 * (a .w + 1) + 1) (a .w)) (words-at (a .masks .now) (c .before .before .before .before .before .before .before .before .before .before .best .result * a .w) (a .w))
-
-set-length : (c : tie.After-slice-known5 Inv-loop μ-loop) → length (set-of c) ≡ c .before .before .before .before .before .before .before .before .before .before .before .before .before .before .before .before .before .before .before .args .w
-set-length c =
-    let a = c .before .before .before .before .before .before .before .before .before .before .before .before .before .before .before .before .before .before .before .args in
-    let b = room (c .before .before .before .before .before .before .before .before) in
-    length-masked (a .store .now) (a .masks .now) (getD (c .before .before .before .before .before .before .before .before .before .before .before .before .before .loop .at) (c .before .before .before .before .before .before .before .before .before .before .best .result) 0 * (a .w + 1) + 1) (c .before .before .before .before .before .before .before .before .before .before .best .result * a .w) (a .w) (omega (arith, b)) (b .1)
-
-written : (c : tie.After-slice-known5 Inv-loop μ-loop) → c .before .before .before .before .before .before .before .before .before .before .before .before .before .loop .out * (c .before .before .before .before .before .before .before .before .before .before .before .before .before .before .before .before .before .before .before .args .w + 1) ≤ length (c .before .before .before .before .before .before .before .before .before .before .before .before .before .loop .scratch)
-written c =
-    let a = c .before .before .before .before .before .before .before .before .before .before .before .before .before .before .before .before .before .before .before .args in
-    let l = c .before .before .before .before .before .before .before .before .before .before .before .before .before .loop in
-    stride-le (l .out) (a .limit) (a .w) (length (l .scratch)) (c .before .before .before .before .before .before .before .before .before .before .before .before .loop-test .taken) (rw (l .inv .1) (c .before .before .before .before .before .before .before .before .before .before .before .before .before .before .before .before .before .before .before .pre .4))
-
--- what the turn wrote, as terms
-grow : (c : tie.After-slice-known5 Inv-loop μ-loop)
-    → Grown (c .before .before .before .before .before .before .before .before .before .before .before .before .before .loop .out) (c .before .before .before .before .before .before .before .before .before .before .before .before .before .before .before .before .before .before .before .args .limit) (c .before .before .before .before .before .before .sweep .result) (num (set-of c)) (decoded (c .before .before .before .before .before .before .before .before .before .before .before .before .before .before .before .before .before .before .before .args .w) (c .before .before .before .before .before .before .before .before .before .before .before .before .before .loop .out) (c .before .before .before .before .before .before .before .before .before .before .before .before .before .loop .scratch)) (decoded (c .before .before .before .before .before .before .before .before .before .before .before .before .before .before .before .before .before .before .before .args .w) (c .before .before .emit .result) (c .before .before .emit .last .1 .1 .1 .1 .1 .0)) (c .before .before .emit .result)
-grow c =
-    let a = c .before .before .before .before .before .before .before .before .before .before .before .before .before .before .before .before .before .before .before .args in
-    let l = c .before .before .before .before .before .before .before .before .before .before .before .before .before .loop in
-    grown (a .w) (l .out) (a .limit) (c .before .before .before .before .before .before .sweep .result) (c .before .before .emit .result) (set-of c) (l .scratch) (c .before .before .emit .last .1 .1 .1 .1 .1 .0) (written c) (set-length c) (c .before .before .emit .ensures)
+    let r = room (c .before .before .before .before .before) in
+    (omega (arith, r), r .1, c .before .before .before .before .before .before .before .before .before .loop-test .taken, rw (l .inv .1) (p .4), p .0 .narrow)
 
 loop-less : tie.Need-loop-less Inv-loop μ-loop
 loop-less c =
@@ -141,10 +114,8 @@ loop-less c =
     let p = c .before .before .before .before .before .before .before .before .before .before .before .before .before .before .before .before .before .before .before .pre in
     let l = c .before .before .before .before .before .before .before .before .before .before .before .before .before .loop in
     let k = l .inv .0 in
-    go-less (a .g) (a .signs .now) (mask-at (a .w) (a .masks .now)) (decoded (a .w) (a .n) (a .store .now)) (2 ^ (64 * a .w)) (length (a .at .now)) (p .5) (a .limit) (l .out) (c .before .before .emit .result) (c .before .before .before .before .before .before .before .before .before .before .best .result)
-    (num (masked (words-at (a .store .now) (getD (l .at) (c .before .before .before .before .before .before .before .before .before .before .best .result) 0 * (a .w + 1) + 1) (a .w)) (words-at (a .masks .now) (c .before .before .before .before .before .before .before .before .before .before .best .result * a .w) (a .w)))) (c .before .before .before .before .before .before .sweep .result) (decoded (a .w) (l .out) (l .scratch)) (decoded (a .w) (c .before .before .emit .result) (c .before .before .emit .last .1 .1 .1 .1 .1 .0)) (l .at) (c .before .before .before .before .before .before .sweep .last .1 .1 .1 .1 .1 .1 .0)
-    (c .before .before .before .before .before .before .before .before .before .before .before .before .loop-test .taken) (l .inv .2) (rw k at (c .before .before .before .before .before .before .before .before .before .before .best .ensures .0)) (head-rank (c .before .before .before .before .before .before .before .before)) (rw k at (c .before .before .before .before .before .before .sweep .ensures)) (grow c) (length-decoded (a .w) (c .before .before .emit .result) (c .before .before .emit .last .1 .1 .1 .1 .1 .0))
-    (omega (arith, c .before .before .before .before .before .before .before .before .if1 .left, length-decoded (a .w) (a .n) (a .store .now)))
+    turn-less (a .store .now) (a .masks .now) (a .signs .now) (a .n) (a .w) (length (a .at .now)) (a .limit) (a .g) (p .1) (λ x. c .before .before .before .before .before .before .before .before .before .before .before .before .before .before .before .before .before .before .shared-slice-known .given x .fits) (λ x. c .before .before .before .before .before .before .before .before .before .before .before .before .before .before .before .before .shared-slice-known3 .given x .fits) (p .5) (l .out) (c .before .before .before .before .before .before .before .before .before .before .best .result) (l .scratch) (l .at) (c .before .before .before .before .before .before .before .before .before .before .before .before .loop-test .taken) (l .inv .2) (λ i d. c .before .before .before .before .before .before .before .before .before .before .best .ensures .1 i (rw (l .inv .0) d)) (rw (l .inv .0) at (c .before .before .before .before .before .before .before .before .before .before .best .ensures .0)) (c .before .before .before .before .before .before .before .before .if1 .left)
+    (c .before .before .before .before .before .before .sweep .result) (c .before .before .emit .result) (a .scratch .now) (c .before .before .emit .last .1 .1 .1 .1 .1 .0) (c .before .before .before .before .before .before .sweep .last .1 .1 .1 .1 .1 .1 .0) (rw (l .inv .1) (p .4)) (rw k at (c .before .before .before .before .before .before .sweep .ensures)) (c .before .before .emit .ensures)
 
 loop-again : tie.Need-loop-again Inv-loop μ-loop
 loop-again c =
@@ -154,10 +125,10 @@ loop-again c =
     let k = l .inv .0 in (
       c .before .before .before .before .before .before .sweep .kept .1 .1 .1 .1 .1 .1 .0 ∙ k,
       c .before .before .emit .kept .1 .1 .1 .1 .1 .0 ∙ l .inv .1,
-      go-on (a .g) (a .signs .now) (mask-at (a .w) (a .masks .now)) (decoded (a .w) (a .n) (a .store .now)) (2 ^ (64 * a .w)) (length (a .at .now)) (p .5) (a .limit) (l .out) (c .before .before .emit .result) (c .before .before .before .before .before .before .before .before .before .before .best .result)
-          (num (masked (words-at (a .store .now) (getD (l .at) (c .before .before .before .before .before .before .before .before .before .before .best .result) 0 * (a .w + 1) + 1) (a .w)) (words-at (a .masks .now) (c .before .before .before .before .before .before .before .before .before .before .best .result * a .w) (a .w)))) (c .before .before .before .before .before .before .sweep .result) (decoded (a .w) (l .out) (l .scratch)) (decoded (a .w) (c .before .before .emit .result) (c .before .before .emit .last .1 .1 .1 .1 .1 .0)) (l .at) (c .before .before .before .before .before .before .sweep .last .1 .1 .1 .1 .1 .1 .0)
-          (c .before .before .before .before .before .before .before .before .before .before .before .before .loop-test .taken) (l .inv .2) (rw k at (c .before .before .before .before .before .before .before .before .before .before .best .ensures .0)) (head-rank (c .before .before .before .before .before .before .before .before)) (rw k at (c .before .before .before .before .before .before .sweep .ensures)) (grow c) (length-decoded (a .w) (c .before .before .emit .result) (c .before .before .emit .last .1 .1 .1 .1 .1 .0)),
-      behind-more (a .w) (l .out) (a .limit) (c .before .before .before .before .before .before .sweep .result) (c .before .before .emit .result) (set-of c) (a .scratch .now) (l .scratch) (c .before .before .emit .last .1 .1 .1 .1 .1 .0) (c .before .before .before .before .before .before .before .before .before .before .before .before .loop-test .taken) (written c) (set-length c) (l .inv .3) (c .before .before .emit .ensures),
+      turn-on (a .store .now) (a .masks .now) (a .signs .now) (a .n) (a .w) (length (a .at .now)) (a .limit) (a .g) (p .1) (λ x. c .before .before .before .before .before .before .before .before .before .before .before .before .before .before .before .before .before .before .shared-slice-known .given x .fits) (λ x. c .before .before .before .before .before .before .before .before .before .before .before .before .before .before .before .before .shared-slice-known3 .given x .fits) (p .5) (l .out) (c .before .before .before .before .before .before .before .before .before .before .best .result) (l .scratch) (l .at) (c .before .before .before .before .before .before .before .before .before .before .before .before .loop-test .taken) (l .inv .2) (λ i d. c .before .before .before .before .before .before .before .before .before .before .best .ensures .1 i (rw (l .inv .0) d)) (rw (l .inv .0) at (c .before .before .before .before .before .before .before .before .before .before .best .ensures .0)) (c .before .before .before .before .before .before .before .before .if1 .left)
+          (c .before .before .before .before .before .before .sweep .result) (c .before .before .emit .result) (a .scratch .now) (c .before .before .emit .last .1 .1 .1 .1 .1 .0) (c .before .before .before .before .before .before .sweep .last .1 .1 .1 .1 .1 .1 .0) (rw (l .inv .1) (p .4)) (rw k at (c .before .before .before .before .before .before .sweep .ensures)) (c .before .before .emit .ensures),
+      turn-behind (a .store .now) (a .masks .now) (a .signs .now) (a .n) (a .w) (length (a .at .now)) (a .limit) (a .g) (p .1) (λ x. c .before .before .before .before .before .before .before .before .before .before .before .before .before .before .before .before .before .before .shared-slice-known .given x .fits) (λ x. c .before .before .before .before .before .before .before .before .before .before .before .before .before .before .before .before .shared-slice-known3 .given x .fits) (p .5) (l .out) (c .before .before .before .before .before .before .before .before .before .before .best .result) (l .scratch) (l .at) (c .before .before .before .before .before .before .before .before .before .before .before .before .loop-test .taken) (l .inv .2) (λ i d. c .before .before .before .before .before .before .before .before .before .before .best .ensures .1 i (rw (l .inv .0) d)) (rw (l .inv .0) at (c .before .before .before .before .before .before .before .before .before .before .best .ensures .0)) (c .before .before .before .before .before .before .before .before .if1 .left)
+          (c .before .before .before .before .before .before .sweep .result) (c .before .before .emit .result) (a .scratch .now) (c .before .before .emit .last .1 .1 .1 .1 .1 .0) (c .before .before .before .before .before .before .sweep .last .1 .1 .1 .1 .1 .1 .0) (rw (l .inv .1) (p .4)) (rw k at (c .before .before .before .before .before .before .sweep .ensures)) (c .before .before .emit .ensures) (l .inv .3),
     )
 
 same-length-3 : tie.Need-same-length-3 Inv-loop μ-loop

@@ -1,3 +1,4 @@
+-- The tables are those of the gate, so its streams gather to its step.
 use mathlib.Core.Path.{_≡_}
 use mathlib.Core.List.{List}
 use Prim.Native.Nat.{ℕ}

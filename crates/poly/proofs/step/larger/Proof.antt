@@ -1,15 +1,14 @@
+-- Each return is one of the two.
 use borrow.Author.Tests.{lt-ltb, le-ltb}
 use Rattle.poly.proofs.step.larger.Statement.{statement}
 use Rattle.poly.proofs.step.larger.Tie as tie
 use Rattle.poly.proofs.step.larger.Reads as reads
 use Rattle.poly.proofs.step.larger.Lts as lts
 
--- src/step.rt:60:9
 returns : tie.Need-returns
 returns c =
     rw (lt-ltb _ _ (c .if1 .taken))
 
--- src/step.rt:56:1
 returns-2 : tie.Need-returns-2
 returns-2 c =
     rw (le-ltb _ _ (c .if1 .left))

@@ -1,3 +1,4 @@
+-- The terms passed do not hold v.
 use mathlib.Core.Path.{_≡_, refl, sym, _∙_}
 use Prim.Native.Nat.{_-_, _≤_}
 use native.Mathlib.Omega.{arith}
@@ -20,57 +21,47 @@ abbrev μ-loop : tie.MeasureT-loop
 μ-loop store n w v stride i₀ i =
     n - i
 
--- src/step.rt:21:18
 add-stride : tie.Need-add-stride Inv-loop μ-loop
 add-stride c = omega arith
 
--- src/step.rt:23:5
 loop-holds : tie.Need-loop-holds Inv-loop μ-loop
 loop-holds c =
     (omega arith, refl)
 
--- src/step.rt:24:38
 mul-holds : tie.Need-mul-holds Inv-loop μ-loop
 mul-holds c =
     let a = c .before .before .before .args in
     omega (arith, stride-in (c .before .loop .i) (a .n) (a .w) (length (a .store .now)) (omega arith) (c .before .before .before .pre .0))
 
--- src/step.rt:24:38
 add-holds : tie.Need-add-holds Inv-loop μ-loop
 add-holds c =
     let a = c .before .before .before .args in
     omega (arith, stride-in (c .before .loop .i) (a .n) (a .w) (length (a .store .now)) (omega arith) (c .before .before .before .pre .0))
 
--- src/step.rt:24:12
 holds-requires : tie.Need-holds-requires Inv-loop μ-loop
 holds-requires c κs =
     let a = c .before .before .before .args in
     let s = stride-in (c .before .loop .i) (a .n) (a .w) (length (a .store .now)) (omega arith) (c .before .before .before .pre .0) in
     (omega arith, c .before .before .before .pre .2)
 
--- src/step.rt:25:13
 returns : tie.Need-returns Inv-loop μ-loop
 returns c =
     let a = c .before .before .before .before .before .args in
     let l = c .before .before .before .loop in
     occurs-here (a .w) (a .n) (l .i) (a .v) (c .before .holds .result) (a .store .now) (c .before .before .loop-test .taken) (c .before .holds .ensures) (c .if1 .taken) ∙ l .inv .1
 
--- src/step.rt:27:9
 add-i : tie.Need-add-i Inv-loop μ-loop
 add-i c = omega arith
 
--- src/step.rt:23:5
 loop-less : tie.Need-loop-less Inv-loop μ-loop
 loop-less c = omega arith
 
--- src/step.rt:23:5
 loop-again : tie.Need-loop-again Inv-loop μ-loop
 loop-again c =
     let a = c .before .before .before .before .before .args in
     let l = c .before .before .before .loop in
     (omega arith, sym (occurs-later (a .w) (a .n) (l .i) (a .v) (c .before .holds .result) (a .store .now) (c .before .before .loop-test .taken) (c .before .holds .ensures) (c .if1 .left)) ∙ l .inv .1)
 
--- src/step.rt:17:1
 returns-2 : tie.Need-returns-2 Inv-loop μ-loop
 returns-2 c =
     let a = c .before .before .before .args in

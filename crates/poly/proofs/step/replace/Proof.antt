@@ -1,3 +1,4 @@
+-- No room: nothing was moved. Room: the terms are in the store.
 use mathlib.Core.Path.{_≡_, refl}
 use Prim.Native.Nat.{_+_, _*_, _^_}
 use lib.ListN.{length}
@@ -15,31 +16,24 @@ use Rattle.poly.proofs.step.gathered.Reads as gathered-reads
 use Rattle.poly.proofs.step.settle.Reads as settle-reads
 use Rattle.words.proofs.stretches.clear.Reads as clear-reads
 
--- src/step.rt:95:9
 gathered-requires : tie.Need-gathered-requires
 gathered-requires c κs = search needs
 
--- src/step.rt:97:54
 add-clear : tie.Need-add-clear
 add-clear c = search needs
 
--- src/step.rt:97:45
 mul-clear : tie.Need-mul-clear
 mul-clear c = search needs
 
--- src/step.rt:97:9
 clear-requires : tie.Need-clear-requires
 clear-requires c κs = search needs
 
--- src/step.rt:98:9
 same-length : tie.Need-same-length
 same-length c = search needs
 
--- src/step.rt:98:9
 same-length-2 : tie.Need-same-length-2
 same-length-2 c = search needs
 
--- src/step.rt:98:9
 returns : tie.Need-returns
 returns c =
     let a = c .before .before .before .before .before .before .before .before .before .before .before .before .args in
@@ -50,7 +44,6 @@ returns c =
     stepped-full (a .w) (a .limit) (g .result) (gather (2 ^ a .g .l) (all-replaced (2 ^ a .g .l) (a .g .v) (a .x) (a .y) (decoded (a .w) (a .n) (a .store .now)))) (a .store .now) (a .scratch .now) (g .last .1 .1 .1 .1 .1 .1 .0) (a .store .now) (c .before .before .clear .last .0) (g .ensures .0) (c .before .before .before .before .if1 .taken) refl
     (rw k at (zeros-all (a .limit * (a .w + 1)) (g .last .1 .1 .1 .1 .1 .1 .0) (c .before .before .clear .last .0) (rw k (p .scratch-room)) z (c .before .before .clear .ensures)))
 
--- src/step.rt:100:5
 settle-requires : tie.Need-settle-requires
 settle-requires c κs =
     let a = c .before .before .before .before .before .before .before .before .before .before .args in
@@ -66,15 +59,12 @@ settle-requires c κs =
       zeros-kept (g .result * (a .w + 1)) (a .scratch .now) (g .last .1 .1 .1 .1 .1 .1 .0) k (p .clean) (g .ensures .1 .few l),
     )
 
--- src/step.rt:82:1
 same-length-3 : tie.Need-same-length-3
 same-length-3 c = search needs
 
--- src/step.rt:82:1
 same-length-4 : tie.Need-same-length-4
 same-length-4 c = search needs
 
--- src/step.rt:82:1
 returns-2 : tie.Need-returns-2
 returns-2 c =
     let a = c .before .before .before .before .before .before .before .before .before .before .before .before .before .before .before .args in

@@ -1,3 +1,4 @@
+-- What is moved, and zeros behind it.
 use Prim.Native.Nat.{_+_, _*_}
 use lib.ListN.{length}
 use Rattle.poly.proofs.Settled.{larger-than, moved, zeros-all}
@@ -10,31 +11,24 @@ use Rattle.poly.proofs.step.larger.Reads as larger-reads
 use Rattle.words.proofs.stretches.clear.Reads as clear-reads
 use Rattle.words.proofs.stretches.copy.Reads as copy-reads
 
--- src/step.rt:73:20
 add-end : tie.Need-add-end
 add-end c = search needs
 
--- src/step.rt:73:15
 mul-end : tie.Need-mul-end
 mul-end c = search needs
 
--- src/step.rt:74:33
 add-larger : tie.Need-add-larger
 add-larger c = search needs
 
--- src/step.rt:74:28
 mul-larger : tie.Need-mul-larger
 mul-larger c = search needs
 
--- src/step.rt:74:9
 larger-requires : tie.Need-larger-requires
 larger-requires c κs = search needs
 
--- src/step.rt:75:5
 copy-requires : tie.Need-copy-requires
 copy-requires c κs = search needs
 
--- src/step.rt:76:5
 clear-requires : tie.Need-clear-requires
 clear-requires c κs =
     let p = c .before .before .before .before .before .before .before .before .before .pre in
@@ -42,19 +36,15 @@ clear-requires c κs =
     let u = larger-than (a .r * (a .w + 1)) (a .n * (a .w + 1)) (c .before .before .before .before .before .before .larger .result) (c .before .before .before .before .before .before .larger .ensures) in
     (u .0, rw (c .before .before .before .copy .kept .1 .0) (u .2 (length (a .store .now)) (p .2) (p .1)))
 
--- src/step.rt:77:5
 clear-requires-2 : tie.Need-clear-requires-2
 clear-requires-2 c κs = search needs
 
--- src/step.rt:66:1
 same-length : tie.Need-same-length
 same-length c = search needs
 
--- src/step.rt:66:1
 same-length-2 : tie.Need-same-length-2
 same-length-2 c = search needs
 
--- src/step.rt:66:1
 returns : tie.Need-returns
 returns c =
     let p = c .before .before .before .before .before .before .before .before .before .before .before .before .before .before .before .before .pre in

@@ -1,3 +1,4 @@
+-- v is in no term: nothing changes. Else the step of the literals brought apart is the same step.
 use mathlib.Core.Path.{sym, _∙_}
 use lib.ListN.{length}
 use Rattle.words.proofs.Stored.{stride-le}
@@ -11,50 +12,40 @@ use Rattle.poly.proofs.gates.apart.Reads as apart-reads
 use Rattle.poly.proofs.step.occurs.Reads as occurs-reads
 use Rattle.poly.proofs.step.replace.Reads as replace-reads
 
--- src/step.rt:121:9
 occurs-requires : tie.Need-occurs-requires
 occurs-requires c κs =
     let a = c .before .before .before .args in
     let p = c .before .before .before .pre in
     (stride-le (a .held) (a .limit) (a .w) (length (a .store .now)) (p .held-most) (p .store-room), p .narrow, p .v-in)
 
--- src/step.rt:122:9
 same-length : tie.Need-same-length
 same-length c = search needs
 
--- src/step.rt:122:9
 returns : tie.Need-returns
 returns c =
     let a = c .before .before .before .before .before .args in
     stepped-same (a .w) (a .l) (a .v) (a .x) (a .y) (a .limit) (a .held) (a .store .now) (a .scratch .now) (c .before .before .before .before .before .pre) (sym (c .before .occurs .ensures) ∙ not-so (c .before .occurs .result) (c .if1 .taken))
 
--- src/step.rt:124:9
 apart-requires : tie.Need-apart-requires
 apart-requires c κs = search needs
 
--- src/step.rt:129:12
 cast-t20 : tie.Need-cast-t20
 cast-t20 c = search needs
 
--- src/step.rt:130:12
 cast-t22 : tie.Need-cast-t22
 cast-t22 c = search needs
 
--- src/step.rt:133:5
 replace-requires : tie.Need-replace-requires
 replace-requires c κs =
     let a = c .before .before .before .before .before .before .before .before .args in
     to-replace (a .w) (a .l) (a .v) (a .x) (a .y) (a .limit) (a .held) (a .store .now) (a .scratch .now) (c .before .before .before .before .before .before .before .before .pre) (c .before .before .apart .result) (c .before .before .apart .ensures)
 
--- src/step.rt:106:1
 same-length-2 : tie.Need-same-length-2
 same-length-2 c = search needs
 
--- src/step.rt:106:1
 same-length-3 : tie.Need-same-length-3
 same-length-3 c = search needs
 
--- src/step.rt:106:1
 returns-2 : tie.Need-returns-2
 returns-2 c =
     let a = c .before .before .before .before .before .before .before .before .before .before .before .before .before .args in

@@ -1,3 +1,4 @@
+-- What is passed has no weight in the stream.
 use Prim.Native.Nat.{_-_, _≤_}
 use native.Mathlib.Omega.{arith}
 use lib.ListN.{length}
@@ -17,28 +18,23 @@ abbrev μ-loop : tie.MeasureT-loop
 μ-loop store n w g signs j from stride i₀ i =
     n - i
 
--- src/streams.rt:41:18
 add-stride : tie.Need-add-stride Inv-loop μ-loop
 add-stride c = omega arith
 
--- src/streams.rt:43:5
 loop-holds : tie.Need-loop-holds Inv-loop μ-loop
 loop-holds c =
     (omega arith, omega arith, passed-none _ _ _ _ _ _ _)
 
--- src/streams.rt:44:27
 mul-sign-of : tie.Need-mul-sign-of Inv-loop μ-loop
 mul-sign-of c =
     let a = c .before .before .before .before .args in
     omega (arith, stride-in (c .before .loop .i) (a .n) (a .w) (length (a .store .now)) (omega arith) (c .before .before .before .before .pre .0 .room))
 
--- src/streams.rt:44:27
 add-sign-of : tie.Need-add-sign-of Inv-loop μ-loop
 add-sign-of c =
     let a = c .before .before .before .before .args in
     omega (arith, stride-in (c .before .loop .i) (a .n) (a .w) (length (a .store .now)) (omega arith) (c .before .before .before .before .pre .0 .room))
 
--- src/streams.rt:44:12
 sign-of-requires : tie.Need-sign-of-requires Inv-loop μ-loop
 sign-of-requires c κs =
     let a = c .before .before .before .before .args in
@@ -46,7 +42,6 @@ sign-of-requires c κs =
     let s = stride-in (c .before .loop .i) (a .n) (a .w) (length (a .store .now)) (omega arith) (p .room) in
     (omega arith, p .v-in, p .x-in, p .y-in, c .before .before .before .before .pre .1, p .table)
 
--- src/streams.rt:45:13
 returns : tie.Need-returns Inv-loop μ-loop
 returns c =
     let a = c .before .before .before .before .before .before .args in
@@ -54,22 +49,18 @@ returns c =
     let l = c .before .before .before .loop in
     next-some (a .g) (a .signs .now) (a .j) (a .w) (a .n) (a .store .now) (a .from) (l .i) (c .before .sign-of .result) (omega arith) (omega arith) (l .inv .2) (c .before .sign-of .ensures) (c .if1 .taken) (p .some (l .i) (omega arith)) (p .small (l .i) (omega arith))
 
--- src/streams.rt:47:9
 add-i : tie.Need-add-i Inv-loop μ-loop
 add-i c = omega arith
 
--- src/streams.rt:43:5
 loop-less : tie.Need-loop-less Inv-loop μ-loop
 loop-less c = omega arith
 
--- src/streams.rt:43:5
 loop-again : tie.Need-loop-again Inv-loop μ-loop
 loop-again c =
     let a = c .before .before .before .before .before .before .args in
     let l = c .before .before .before .loop in
     (omega arith, omega arith, passed-more (a .g) (a .signs .now) (a .j) (a .w) (a .n) (a .store .now) (a .from) (l .i) (c .before .sign-of .result) (omega arith) (l .inv .2) (c .before .sign-of .ensures) (c .if1 .left))
 
--- src/streams.rt:29:1
 returns-2 : tie.Need-returns-2 Inv-loop μ-loop
 returns-2 c =
     let a = c .before .before .before .before .args in

@@ -1,3 +1,4 @@
+-- The row of the table is which of v, x and y the set has.
 use Prim.Native.Nat.{_<_}
 use native.Mathlib.Omega.{arith}
 use Rattle.poly.specs.Streams.{sign-of, row}
@@ -13,54 +14,43 @@ use Rattle.words.proofs.sets.holds.Reads as holds-reads
 least : (c : tie.After-holds3) → (c .before .before .holds .result < 2) × (c .before .holds2 .result < 2) × (c .holds3 .result < 2)
 least c = (rw (c .before .before .holds .ensures) (bit-lt _ _), rw (c .before .holds2 .ensures) (bit-lt _ _), rw (c .holds3 .ensures) (bit-lt _ _))
 
--- src/streams.rt:22:9
 holds-requires : tie.Need-holds-requires
 holds-requires c κs = search needs
 
--- src/streams.rt:23:9
 holds-requires-2 : tie.Need-holds-requires-2
 holds-requires-2 c κs = search needs
 
--- src/streams.rt:24:9
 holds-requires-3 : tie.Need-holds-requires-3
 holds-requires-3 c κs = search needs
 
--- src/streams.rt:25:16
 mul-result : tie.Need-mul-result
 mul-result c =
     omega (arith, least c)
 
--- src/streams.rt:25:12
 add-result : tie.Need-add-result
 add-result c =
     omega (arith, least c)
 
--- src/streams.rt:25:24
 mul-result-2 : tie.Need-mul-result-2
 mul-result-2 c =
     omega (arith, least c)
 
--- src/streams.rt:25:12
 add-result-2 : tie.Need-add-result-2
 add-result-2 c =
     omega (arith, least c)
 
--- src/streams.rt:25:11
 mul-result-3 : tie.Need-mul-result-3
 mul-result-3 c =
     omega (arith, least c)
 
--- src/streams.rt:25:11
 add-result-3 : tie.Need-add-result-3
 add-result-3 c =
     omega (arith, least c)
 
--- src/streams.rt:25:5
 shared-slice-read-result : tie.Need-shared-slice-read-result
 shared-slice-read-result c =
     omega (arith, least (c .before))
 
--- src/streams.rt:18:1
 returns : tie.Need-returns
 unfolding sign-of row
 returns c =

@@ -1,3 +1,4 @@
+-- The wrap at 64 bits, then the drop to l.
 use Rattle.words.proofs.Writing.{wrap-back}
 use native.Mathlib.Omega.{arith}
 use borrow.Author.Needs.{needs}
@@ -8,15 +9,12 @@ use Rattle.words.proofs.coefficients.difference.Lts as lts
 use Rattle.std.proofs.num.wrapping_sub_u64.Reads as wrapping-sub-u64-reads
 use Rattle.words.proofs.coefficients.dropped.Reads as dropped-reads
 
--- src/coefficients.rt:29:13
 wrapping-sub-u64-requires : tie.Need-wrapping-sub-u64-requires
 wrapping-sub-u64-requires c κs = search needs
 
--- src/coefficients.rt:29:5
 dropped-requires : tie.Need-dropped-requires
 dropped-requires c κs = search needs
 
--- src/coefficients.rt:25:1
 returns : tie.Need-returns
 returns c =
     rw (c .dropped .ensures) (wrap-back _ _ _ _ (omega arith) (omega arith) (c .before .wrapping-sub-u64 .ensures))

@@ -1,3 +1,4 @@
+-- A word is its own remainder at 64 bits.
 use mathlib.Core.Path.{sym}
 use native.Mathlib.Nat.{mod-eq-of-lt}
 use native.Mathlib.Omega.{arith}
@@ -9,21 +10,17 @@ use Rattle.words.proofs.coefficients.dropped.Tie as tie
 use Rattle.words.proofs.coefficients.dropped.Reads as reads
 use Rattle.words.proofs.coefficients.dropped.Lts as lts
 
--- src/coefficients.rt:11:9
 returns : tie.Need-returns
 returns c =
     rw (c .if1 .taken) (sym (mod-eq-of-lt (omega arith)))
 
--- src/coefficients.rt:13:10
 shl-result : tie.Need-shl-result
 shl-result c = search needs
 
--- src/coefficients.rt:13:5
 rem-result : tie.Need-rem-result
 rem-result c =
     rw (one-shifted (c .before .args .l) (omega (arith, c .if1 .left))) (pow-pos _)
 
--- src/coefficients.rt:6:1
 returns-2 : tie.Need-returns-2
 returns-2 c =
     rw (one-shifted (c .before .args .l) (omega (arith, c .if1 .left)))

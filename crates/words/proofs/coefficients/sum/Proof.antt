@@ -1,3 +1,4 @@
+-- The wrap at 64 bits, then the drop to l.
 use Rattle.words.proofs.Writing.{drop-wrap}
 use native.Mathlib.Omega.{arith}
 use borrow.Author.Needs.{needs}
@@ -8,15 +9,12 @@ use Rattle.words.proofs.coefficients.sum.Lts as lts
 use Rattle.std.proofs.num.wrapping_add_u64.Reads as wrapping-add-u64-reads
 use Rattle.words.proofs.coefficients.dropped.Reads as dropped-reads
 
--- src/coefficients.rt:21:13
 wrapping-add-u64-requires : tie.Need-wrapping-add-u64-requires
 wrapping-add-u64-requires c κs = search needs
 
--- src/coefficients.rt:21:5
 dropped-requires : tie.Need-dropped-requires
 dropped-requires c κs = search needs
 
--- src/coefficients.rt:17:1
 returns : tie.Need-returns
 returns c =
     rw (c .dropped .ensures, c .before .wrapping-add-u64 .ensures) (drop-wrap _ _ (omega arith))

@@ -1,3 +1,4 @@
+-- From the top word down: the words passed are equal, and the first that differ decide.
 use mathlib.Core.Path.{_≡_, ap, sym, _∙_}
 use Prim.Native.Nat.{_-_, _≤_}
 use native.Mathlib.Omega.{arith}
@@ -17,83 +18,65 @@ abbrev μ-loop : tie.MeasureT-loop
 μ-loop words i j masks a b w k₀ k =
     k
 
--- src/sets.rt:29:5
 loop-holds : tie.Need-loop-holds Inv-loop μ-loop
 loop-holds c =
     let a = c .args in
     (omega arith, masked-end (a .words .now) (a .masks .now) (a .i) (a .a) (a .w) (omega arith) (omega arith) ∙ sym (masked-end (a .words .now) (a .masks .now) (a .j) (a .b) (a .w) (omega arith) (omega arith)))
 
--- src/sets.rt:30:9
 sub-k : tie.Need-sub-k Inv-loop μ-loop
 sub-k c = omega arith
 
--- src/sets.rt:31:23
 add-x : tie.Need-add-x Inv-loop μ-loop
 add-x c = omega arith
 
--- src/sets.rt:31:17
 mul-x : tie.Need-mul-x Inv-loop μ-loop
 mul-x c = omega arith
 
--- src/sets.rt:31:17
 shared-slice-read-x : tie.Need-shared-slice-read-x Inv-loop μ-loop
 shared-slice-read-x c = omega arith
 
--- src/sets.rt:31:38
 add-x-2 : tie.Need-add-x-2 Inv-loop μ-loop
 add-x-2 c = omega arith
 
--- src/sets.rt:31:32
 mul-x-2 : tie.Need-mul-x-2 Inv-loop μ-loop
 mul-x-2 c = omega arith
 
--- src/sets.rt:31:32
 shared-slice-read-x-2 : tie.Need-shared-slice-read-x-2 Inv-loop μ-loop
 shared-slice-read-x-2 c = omega arith
 
--- src/sets.rt:32:23
 add-y : tie.Need-add-y Inv-loop μ-loop
 add-y c = omega arith
 
--- src/sets.rt:32:17
 mul-y : tie.Need-mul-y Inv-loop μ-loop
 mul-y c = omega arith
 
--- src/sets.rt:32:17
 shared-slice-read-y : tie.Need-shared-slice-read-y Inv-loop μ-loop
 shared-slice-read-y c = omega arith
 
--- src/sets.rt:32:38
 add-y-2 : tie.Need-add-y-2 Inv-loop μ-loop
 add-y-2 c = omega arith
 
--- src/sets.rt:32:32
 mul-y-2 : tie.Need-mul-y-2 Inv-loop μ-loop
 mul-y-2 c = omega arith
 
--- src/sets.rt:32:32
 shared-slice-read-y-2 : tie.Need-shared-slice-read-y-2 Inv-loop μ-loop
 shared-slice-read-y-2 c = omega arith
 
--- src/sets.rt:34:13
 returns : tie.Need-returns Inv-loop μ-loop
 returns c =
     let a = c .before .before .before .before .before .before .before .args in
     let l = c .before .before .before .before .before .before .loop in
     sym (order-less _ _ (less-at (a .words .now) (a .masks .now) (a .i) (a .j) (a .a) (a .b) (a .w) (l .k) (l .k - 1) (omega arith) (omega arith) (omega arith) (omega arith) (λ n. c .before .before .before .before .shared-slice-known .given n .fits) (λ n. c .before .before .before .shared-slice-known2 .given n .fits) (omega arith) (omega arith) (c .if1 .taken) (l .inv .1)))
 
--- src/sets.rt:37:13
 returns-2 : tie.Need-returns-2 Inv-loop μ-loop
 returns-2 c =
     let a = c .before .before .before .before .before .before .before .before .args in
     let l = c .before .before .before .before .before .before .before .loop in
     sym (order-more _ _ (less-at (a .words .now) (a .masks .now) (a .j) (a .i) (a .b) (a .a) (a .w) (l .k) (l .k - 1) (omega arith) (omega arith) (omega arith) (omega arith) (λ n. c .before .before .before .before .before .shared-slice-known .given n .fits) (λ n. c .before .before .before .before .shared-slice-known2 .given n .fits) (omega arith) (omega arith) (c .if2 .taken) (sym (l .inv .1))))
 
--- src/sets.rt:29:5
 loop-less : tie.Need-loop-less Inv-loop μ-loop
 loop-less c = omega arith
 
--- src/sets.rt:29:5
 loop-again : tie.Need-loop-again Inv-loop μ-loop
 loop-again c =
     let a = c .before .before .before .before .before .before .before .before .args in
@@ -105,7 +88,6 @@ loop-again c =
           (rw (getD-masked (a .words .now) (a .masks .now) (a .i) (a .a) (a .w) (omega arith) (omega arith) (l .k - 1) (omega arith), getD-masked (a .words .now) (a .masks .now) (a .j) (a .b) (a .w) (omega arith) (omega arith) (l .k - 1) (omega arith)) (omega arith)) (l .inv .1),
     )
 
--- src/sets.rt:16:1
 returns-3 : tie.Need-returns-3 Inv-loop μ-loop
 returns-3 c =
     let e : c .before .loop .k ≡ 0 = omega arith in

@@ -1,3 +1,4 @@
+-- The bit in the word that has v is v's bit of the whole set.
 use native.Mathlib.Omega.{arith}
 use Rattle.words.proofs.Numbers.{bit-words}
 use borrow.Author.Needs.{needs}
@@ -6,23 +7,18 @@ use Rattle.words.proofs.sets.holds.Tie as tie
 use Rattle.words.proofs.sets.holds.Reads as reads
 use Rattle.words.proofs.sets.holds.Lts as lts
 
--- src/sets.rt:48:19
 add-x : tie.Need-add-x
 add-x c = search needs
 
--- src/sets.rt:48:13
 mul-x : tie.Need-mul-x
 mul-x c = search needs
 
--- src/sets.rt:48:13
 shared-slice-read-x : tie.Need-shared-slice-read-x
 shared-slice-read-x c = search needs
 
--- src/sets.rt:49:7
 shr-result : tie.Need-shr-result
 shr-result c = search needs
 
--- src/sets.rt:44:1
 returns : tie.Need-returns
 returns c =
     let a = c .before .args in

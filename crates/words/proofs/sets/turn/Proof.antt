@@ -1,3 +1,4 @@
+-- The shift is 2^(v mod 64).
 use native.Mathlib.Omega.{arith}
 use Prim.Native.Nat.{_%_}
 use Rattle.words.proofs.Numbers.{one-shifted}
@@ -7,35 +8,27 @@ use Rattle.words.proofs.sets.turn.Tie as tie
 use Rattle.words.proofs.sets.turn.Reads as reads
 use Rattle.words.proofs.sets.turn.Lts as lts
 
--- src/sets.rt:57:17
 add-place : tie.Need-add-place
 add-place c = search needs
 
--- src/sets.rt:58:20
 mul-words : tie.Need-mul-words
 mul-words c = search needs
 
--- src/sets.rt:58:20
 slice-read-words : tie.Need-slice-read-words
 slice-read-words c = search needs
 
--- src/sets.rt:58:36
 shl-words : tie.Need-shl-words
 shl-words c = search needs
 
--- src/sets.rt:58:5
 mul-words-2 : tie.Need-mul-words-2
 mul-words-2 c = search needs
 
--- src/sets.rt:58:5
 slice-write-words : tie.Need-slice-write-words
 slice-write-words c = search needs
 
--- src/sets.rt:53:1
 same-length : tie.Need-same-length
 same-length c = search needs
 
--- src/sets.rt:53:1
 returns : tie.Need-returns
 returns c =
     rw (one-shifted (c .before .args .v % 64) (omega arith))

@@ -1,3 +1,4 @@
+-- One word after the other.
 use mathlib.Core.Path.{_≡_}
 use mathlib.Core.List.{_++_}
 use Prim.Native.Nat.{_-_, _≤_}
@@ -17,39 +18,31 @@ abbrev μ-loop : tie.MeasureT-loop
 μ-loop words₀ from end k₀ words k =
     end - k
 
--- src/stretches.rt:25:5
 loop-holds : tie.Need-loop-holds Inv-loop μ-loop
 loop-holds c =
     (omega arith, omega arith, omega arith, clear-none (c .args .words .now) (c .args .from))
 
--- src/stretches.rt:26:9
 mul-words : tie.Need-mul-words Inv-loop μ-loop
 mul-words c = omega arith
 
--- src/stretches.rt:26:9
 slice-write-words : tie.Need-slice-write-words Inv-loop μ-loop
 slice-write-words c = omega arith
 
--- src/stretches.rt:27:9
 add-k : tie.Need-add-k Inv-loop μ-loop
 add-k c = omega arith
 
--- src/stretches.rt:25:5
 loop-less : tie.Need-loop-less Inv-loop μ-loop
 loop-less c = omega arith
 
--- src/stretches.rt:25:5
 loop-again : tie.Need-loop-again Inv-loop μ-loop
 loop-again c =
     let l = c .before .loop in
     let a = c .before .before .args in
     (omega arith, omega arith, simp length-set (l .inv .2), clear-more (a .words .now) (l .words) (a .from) (l .k) (omega arith) (omega arith) (l .inv .3))
 
--- src/stretches.rt:20:1
 same-length : tie.Need-same-length Inv-loop μ-loop
 same-length c = omega arith
 
--- src/stretches.rt:20:1
 returns : tie.Need-returns Inv-loop μ-loop
 returns c =
     let e : c .before .loop .k ≡ c .before .before .args .end = omega arith in

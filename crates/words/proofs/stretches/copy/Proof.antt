@@ -1,3 +1,4 @@
+-- One word after the other.
 use mathlib.Core.Path.{_≡_, refl}
 use Prim.Native.Nat.{_-_, _≤_}
 use native.Mathlib.Omega.{arith}
@@ -17,47 +18,37 @@ abbrev μ-loop : tie.MeasureT-loop
 μ-loop words target₀ n k₀ target k =
     n - k
 
--- src/stretches.rt:13:5
 loop-holds : tie.Need-loop-holds Inv-loop μ-loop
 loop-holds c =
     (omega arith, refl, refl)
 
--- src/stretches.rt:14:21
 mul-target : tie.Need-mul-target Inv-loop μ-loop
 mul-target c = omega arith
 
--- src/stretches.rt:14:21
 shared-slice-read-target : tie.Need-shared-slice-read-target Inv-loop μ-loop
 shared-slice-read-target c = omega arith
 
--- src/stretches.rt:14:9
 mul-target-2 : tie.Need-mul-target-2 Inv-loop μ-loop
 mul-target-2 c = omega arith
 
--- src/stretches.rt:14:9
 slice-write-target : tie.Need-slice-write-target Inv-loop μ-loop
 slice-write-target c = omega arith
 
--- src/stretches.rt:15:9
 add-k : tie.Need-add-k Inv-loop μ-loop
 add-k c = omega arith
 
--- src/stretches.rt:13:5
 loop-less : tie.Need-loop-less Inv-loop μ-loop
 loop-less c = omega arith
 
--- src/stretches.rt:13:5
 loop-again : tie.Need-loop-again Inv-loop μ-loop
 loop-again c =
     let l = c .before .before .loop in
     let a = c .before .before .before .args in
     (omega arith, simp length-set (l .inv .1), copy-more (a .target .now) (l .target) (a .words .now) (l .k) (omega arith) (omega arith) (l .inv .2))
 
--- src/stretches.rt:8:1
 same-length : tie.Need-same-length Inv-loop μ-loop
 same-length c = omega arith
 
--- src/stretches.rt:8:1
 returns : tie.Need-returns Inv-loop μ-loop
 returns c =
     let e : c .before .loop .k ≡ c .before .before .args .n = omega arith in

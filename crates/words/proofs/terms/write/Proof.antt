@@ -1,3 +1,4 @@
+-- The coefficient, and the set behind it.
 use mathlib.Core.Path.{_∙_}
 use native.Mathlib.Omega.{arith}
 use lib.ListN.{length-set}
@@ -10,29 +11,23 @@ use Rattle.words.proofs.terms.write.Reads as reads
 use Rattle.words.proofs.terms.write.Lts as lts
 use Rattle.words.proofs.terms.write_set.Reads as write-set-reads
 
--- src/terms.rt:42:5
 mul-target : tie.Need-mul-target
 mul-target c = search needs
 
--- src/terms.rt:42:5
 slice-write-target : tie.Need-slice-write-target
 slice-write-target c = search needs
 
--- src/terms.rt:43:46
 add-write-set : tie.Need-add-write-set
 add-write-set c = search needs
 
--- src/terms.rt:43:5
 write-set-requires : tie.Need-write-set-requires
 write-set-requires c κs =
     (c .before .before .before .before .pre .0, c .before .before .before .before .pre .1, simp length-set (omega arith))
 
--- src/terms.rt:29:1
 same-length : tie.Need-same-length
 same-length c =
     c .before .before .write-set .kept .1 .1 .1 .1 .1 .0 ∙ simp length-set
 
--- src/terms.rt:29:1
 returns : tie.Need-returns
 returns c =
     let a = c .before .before .before .before .before .before .before .args in

@@ -1,3 +1,4 @@
+-- One word after the other, each under its mask.
 use mathlib.Core.Path.{_≡_, refl, _∙_}
 use Prim.Native.Nat.{_-_, _≤_}
 use native.Mathlib.Omega.{arith}
@@ -18,68 +19,53 @@ abbrev μ-loop : tie.MeasureT-loop
 μ-loop words h masks a w target₀ t k₀ target k =
     w - k
 
--- src/terms.rt:22:5
 loop-holds : tie.Need-loop-holds Inv-loop μ-loop
 loop-holds c =
     let a = c .args in
     (omega arith, refl, paste-zero (a .target .now) (a .t) (masked (words-at (a .words .now) (a .h) (a .w)) (words-at (a .masks .now) (a .a) (a .w))))
 
--- src/terms.rt:23:31
 add-target : tie.Need-add-target Inv-loop μ-loop
 add-target c = omega arith
 
--- src/terms.rt:23:25
 mul-target : tie.Need-mul-target Inv-loop μ-loop
 mul-target c = omega arith
 
--- src/terms.rt:23:25
 shared-slice-read-target : tie.Need-shared-slice-read-target Inv-loop μ-loop
 shared-slice-read-target c = omega arith
 
--- src/terms.rt:23:46
 add-target-2 : tie.Need-add-target-2 Inv-loop μ-loop
 add-target-2 c = omega arith
 
--- src/terms.rt:23:40
 mul-target-2 : tie.Need-mul-target-2 Inv-loop μ-loop
 mul-target-2 c = omega arith
 
--- src/terms.rt:23:40
 shared-slice-read-target-2 : tie.Need-shared-slice-read-target-2 Inv-loop μ-loop
 shared-slice-read-target-2 c = omega arith
 
--- src/terms.rt:23:16
 add-target-3 : tie.Need-add-target-3 Inv-loop μ-loop
 add-target-3 c = omega arith
 
--- src/terms.rt:23:9
 mul-target-3 : tie.Need-mul-target-3 Inv-loop μ-loop
 mul-target-3 c = omega arith
 
--- src/terms.rt:23:9
 slice-write-target : tie.Need-slice-write-target Inv-loop μ-loop
 slice-write-target c = omega arith
 
--- src/terms.rt:24:9
 add-k : tie.Need-add-k Inv-loop μ-loop
 add-k c = omega arith
 
--- src/terms.rt:22:5
 loop-less : tie.Need-loop-less Inv-loop μ-loop
 loop-less c = omega arith
 
--- src/terms.rt:22:5
 loop-again : tie.Need-loop-again Inv-loop μ-loop
 loop-again c =
     let a = c .before .before .before .before .args in
     let l = c .before .before .before .loop in
     (omega arith, simp length-set (l .inv .1), write-more (a .target .now) (l .target) (a .words .now) (a .masks .now) (a .h) (a .a) (a .w) (a .t) (l .k) (omega arith) (omega arith) (omega arith) (omega arith) (l .inv .2))
 
--- src/terms.rt:9:1
 same-length : tie.Need-same-length Inv-loop μ-loop
 same-length c = omega arith
 
--- src/terms.rt:9:1
 returns : tie.Need-returns Inv-loop μ-loop
 returns c =
     let a = c .before .before .args in

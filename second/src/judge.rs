@@ -220,7 +220,6 @@ fn wrong_pair(rules: &JudgingRules, last: &Polynomial, n: u32) -> (u64, u64) {
 }
 
 /// Judges a netlist. Every lent word at the end is as document 01 says; a refusal changes none.
-#[allow(clippy::too_many_arguments)]
 pub fn judge(
     counts: Counts,
     table: &[u32],

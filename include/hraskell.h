@@ -103,6 +103,12 @@ uint32_t hraskell_evaluate(
     uint64_t x, uint64_t y,
     uint64_t *word, size_t word_length);
 
+/* A record of the step log. */
+struct hraskell_step {
+    uint32_t gate;  /* the gate variable of the step */
+    uint32_t terms; /* the terms after it */
+};
+
 /*
  * Judges a netlist under a kind.
  *
@@ -113,7 +119,7 @@ uint32_t hraskell_evaluate(
  *   order          lent for reading: 0 to 4,096 gate variables, one for each step
  *   store          lent for writing: at least T(W + 1) words
  *   scratch        lent for writing: at least 4T(W + 1) words
- *   gates, terms   lent for writing, the step log: at least one word each for each step of the order
+ *   log            lent for writing, the step log: at least one record for each step of the order
  *   answer         lent for writing: at least 6 words, else refused 112, checked first
  *
  * Gives the number of the answer and, in answer,
@@ -124,11 +130,12 @@ uint32_t hraskell_evaluate(
  * polynomial of at most T terms, W + 1 words for each (the coefficient, then
  * the set of variables, v at bit v mod 64 of word v/64), sets falling when
  * read as one number, then zeros to its end; scratch is all zeros to its end;
- * gates[k] and terms[k] are the gate of step k + 1 and the terms after it, for
- * each step completed, and other words of both keep their values.
+ * log[k] has the gate of step k + 1 and the terms after it, for each step
+ * completed, and other records keep their values.
  *
  * Or gives a refusal: 112 for answer, then 102, 103, 108, 109, 110, 111, and
- * 112 for store, scratch, gates or terms, in this order.
+ * 112 for store or scratch with too few words or log with fewer records than
+ * the order has steps, in this order.
  */
 uint32_t hraskell_judge(
     uint32_t m, uint32_t i, uint32_t l, uint32_t o, uint32_t a,
@@ -137,8 +144,7 @@ uint32_t hraskell_judge(
     const uint32_t *order, size_t order_length,
     uint64_t *store, size_t store_length,
     uint64_t *scratch, size_t scratch_length,
-    uint32_t *gates, size_t gates_length,
-    uint32_t *terms, size_t terms_length,
+    struct hraskell_step *log, size_t log_length,
     uint64_t *answer, size_t answer_length);
 
 #ifdef __cplusplus

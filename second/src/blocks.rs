@@ -97,7 +97,7 @@ pub fn run(block: &Block, limit: u64, order: &[u32]) -> Result<Run, u32> {
 
 /// The most terms after any step completed.
 pub fn most_terms(run: &Run) -> u32 {
-    run.log.iter().map(|&(_, terms)| terms).max().unwrap_or(0)
+    run.log.iter().map(|step| step.terms).max().unwrap_or(0)
 }
 
 /// A right block is never called different, and an honest order leaves nothing unfinished.

@@ -6,7 +6,7 @@ use crate::reading::Reading;
 use crate::rules::{self, DeskRules, Rules};
 use crate::table::Counts;
 use crate::text::read_by;
-use crate::words::Lent;
+use crate::words::{Lent, Step};
 
 /// The most words that O + 2A can be: 64 outputs, and 1,021 gates on 2 inputs.
 pub const TABLE_WORDS: usize = 2_106;
@@ -75,8 +75,7 @@ fn answer_of(rules: &Rules, counts: Counts, table: &[u32], reading: Reading) -> 
     let lent = Lent {
         store: &mut vec![0; words],
         scratch: &mut vec![0; 4 * words],
-        gates: &mut vec![0; order.len()],
-        terms: &mut vec![0; order.len()],
+        log: &mut vec![Step::default(); order.len()],
     };
     let kind = reading.kind();
     judge_by(rules, counts, table, kind, rules.desk.limit, &order, lent)

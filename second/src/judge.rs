@@ -4,7 +4,7 @@ use crate::polynomial::Polynomial;
 use crate::reading::Reading;
 use crate::rules::{self, JudgingRules, Rules};
 use crate::table::{Counts, Netlist};
-use crate::words::{self, Lent};
+use crate::words::{self, Lent, Step};
 
 #[derive(Clone, Copy, Debug, PartialEq, Eq)]
 pub enum Answer {
@@ -33,8 +33,8 @@ pub struct Run {
     pub answer: Answer,
     /// The last polynomial of at most T terms; none when the start had no room.
     pub held: Option<Polynomial>,
-    /// A gate and the terms after it, for each step completed.
-    pub log: Vec<(u32, u32)>,
+    /// A record for each step completed.
+    pub log: Vec<Step>,
 }
 
 /// What is judged, once nothing is left to refuse.
@@ -89,13 +89,14 @@ impl<'a> Question<'a> {
         let mut log = Vec::new();
         for &gate in self.order {
             let next = held.step(gate, self.netlist.gate(gate));
+            let terms = next.count() as u32;
             if !self.has_room(&rules.judging, &next) {
                 let answer = Answer::OutOfRoom {
                     step: log.len() as u32 + 1,
                     terms: held.count() as u32,
                 };
                 if !rules.judging.step_without_room_has_no_record {
-                    log.push((gate, next.count() as u32));
+                    log.push(Step { gate, terms });
                 }
                 return Run {
                     answer,
@@ -105,7 +106,7 @@ impl<'a> Question<'a> {
             }
             // A step that changes nothing is a step all the same.
             if rules.judging.idle_steps_count || held.mentions(gate) {
-                log.push((gate, next.count() as u32));
+                log.push(Step { gate, terms });
             }
             held = next;
         }
@@ -228,14 +229,12 @@ pub fn judge(
     order: &[u32],
     store: &mut [u64],
     scratch: &mut [u64],
-    gates: &mut [u32],
-    terms: &mut [u32],
+    log: &mut [Step],
 ) -> Answer {
     let lent = Lent {
         store,
         scratch,
-        gates,
-        terms,
+        log,
     };
     judge_by(
         &Rules::of_document(),

@@ -26,4 +26,4 @@ pub use reading::wanted;
 pub use rules::Rules;
 pub use table::{evaluate, evaluate_by, Counts};
 pub use text::{read, read_by};
-pub use words::Lent;
+pub use words::{Lent, Step};

@@ -2,7 +2,7 @@
 
 use second::desk::{answer_line, TABLE_WORDS};
 use second::{blocks, desk, evaluate, judge, orders, read};
-use second::{reading::Reading, Answer, Counts};
+use second::{reading::Reading, Answer, Counts, Step};
 use std::io::{Read, Write};
 use std::process::ExitCode;
 
@@ -87,7 +87,7 @@ fn judge_command(
         Err(number) => (Answer::Refused(number), Vec::new()),
     };
     println!("{}", answer_line(&answer));
-    for (gate, terms) in log.iter().filter(|_| shows_steps) {
+    for Step { gate, terms } in log.iter().filter(|_| shows_steps) {
         println!("{gate} {terms}");
     }
     Ok(true)
@@ -100,11 +100,11 @@ fn judged(
     reading: Reading,
     limit: u64,
     order: &[u32],
-) -> (Answer, Vec<(u32, u32)>) {
+) -> (Answer, Vec<Step>) {
     // A limit that is too high is refused before the lent words are measured.
     let words = limit.min(16_384) as usize * counts.term_words();
     let (mut store, mut scratch) = (vec![0; words], vec![0; 4 * words]);
-    let (mut gates, mut terms) = (vec![0; order.len()], vec![0; order.len()]);
+    let mut log = vec![Step::default(); order.len()];
     let answer = judge(
         counts,
         table,
@@ -113,11 +113,10 @@ fn judged(
         order,
         &mut store,
         &mut scratch,
-        &mut gates,
-        &mut terms,
+        &mut log,
     );
-    let log = gates.into_iter().zip(terms);
-    (answer, log.take(steps_completed(&answer)).collect())
+    log.truncate(steps_completed(&answer));
+    (answer, log)
 }
 
 fn steps_completed(answer: &Answer) -> usize {

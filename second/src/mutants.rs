@@ -89,7 +89,7 @@ fn of_checks() -> Vec<Mutant> {
         bend("judge: kind taken modulo 256", |r| r.judging.kind_is_32_bits = false),
         bend("judge: 10 and 11 swapped", |r| r.judging.limit_comes_before_order = false),
         bend("judge: 8 and 9 swapped", |r| r.judging.soundness_comes_before_kind = false),
-        bend("judge: terms slice not measured", |r| r.judging.both_log_slices_are_measured = false),
+        bend("judge: log not measured", |r| r.judging.log_is_measured = false),
     ]
 }
 
@@ -114,6 +114,7 @@ fn of_lent_words() -> Vec<Mutant> {
     vec![
         bend("judge: R at step 0 holds its terms", |r| r.judging.full_start_holds_nothing = false),
         bend("judge: log written on the step of R", |r| r.judging.step_without_room_has_no_record = false),
+        bend("judge: gate and terms of a record swapped", |r| r.judging.gate_comes_before_terms = false),
         bend("judge: other log records cleared", |r| r.judging.other_records_are_kept = false),
         bend("judge: sets rise in the store", |r| r.judging.sets_fall = false),
         bend("judge: first word of a set leads", |r| r.judging.last_word_leads = false),

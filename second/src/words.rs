@@ -4,12 +4,19 @@ use crate::judge::{Question, Run};
 use crate::polynomial::{Polynomial, Set};
 use crate::rules::{self, JudgingRules};
 
-/// The words lent to the judge.
+/// A record of the log: the gate of a step, and the terms after it. Its layout is that of a C host.
+#[derive(Clone, Copy, Debug, Default, PartialEq, Eq)]
+#[repr(C)]
+pub struct Step {
+    pub gate: u32,
+    pub terms: u32,
+}
+
+/// The words and records lent to the judge.
 pub struct Lent<'a> {
     pub store: &'a mut [u64],
     pub scratch: &'a mut [u64],
-    pub gates: &'a mut [u32],
-    pub terms: &'a mut [u32],
+    pub log: &'a mut [Step],
 }
 
 impl Lent<'_> {
@@ -17,8 +24,7 @@ impl Lent<'_> {
     pub fn is_long_enough(&self, rules: &JudgingRules, question: &Question) -> Result<(), u32> {
         let needed = store_words(question);
         let steps = question.order.len();
-        let log_holds = self.gates.len() >= steps
-            && (self.terms.len() >= steps || !rules.both_log_slices_are_measured);
+        let log_holds = self.log.len() >= steps || !rules.log_is_measured;
         if self.store.len() >= needed && self.scratch.len() >= 4 * needed && log_holds {
             Ok(())
         } else {
@@ -47,18 +53,23 @@ pub fn leave(rules: &JudgingRules, question: &Question, run: &Run, lent: Lent) {
     if rules.scratch_is_cleared {
         lent.scratch.fill(0);
     }
-    leave_log(rules, run, lent.gates, lent.terms);
+    leave_log(rules, run, lent.log);
 }
 
 /// One record for each step completed; the other records keep their values.
-fn leave_log(rules: &JudgingRules, run: &Run, gates: &mut [u32], terms: &mut [u32]) {
+fn leave_log(rules: &JudgingRules, run: &Run, log: &mut [Step]) {
     if !rules.other_records_are_kept {
-        gates.fill(0);
-        terms.fill(0);
+        log.fill(Step::default());
     }
-    let places = gates.iter_mut().zip(terms.iter_mut());
-    for ((gate, term), record) in places.zip(&run.log) {
-        (*gate, *term) = *record;
+    for (place, &Step { gate, terms }) in log.iter_mut().zip(&run.log) {
+        *place = if rules.gate_comes_before_terms {
+            Step { gate, terms }
+        } else {
+            Step {
+                gate: terms,
+                terms: gate,
+            }
+        };
     }
 }
 

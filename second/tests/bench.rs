@@ -2,7 +2,7 @@
 
 mod common;
 
-use common::{answered, holds, judged};
+use common::{answered, holds, judged, records};
 use second::cases::judgements::{and_netlist, two_bits};
 use second::netlists::Made;
 use second::Answer::{self, Differs, Equal, Refused, Unfinished};
@@ -57,14 +57,13 @@ fn rows() -> Vec<Row> {
 
 #[test]
 fn p1_to_p9_give_their_answers_words_and_logs() {
-    for (name, made, kind, order, answer, words, log) in rows() {
+    for (name, made, kind, order, answer, words, terms) in rows() {
         let seen = judged(&made, kind, 128, order);
         assert_eq!(seen.answer, answer, "{name}");
         assert_eq!(seen.store.len(), 256, "{name}");
         assert!(holds(&seen.store, words), "{name}");
         assert_eq!(seen.scratch, vec![0; 1_024], "{name}");
-        assert_eq!(seen.gates, order, "{name}");
-        assert_eq!(seen.terms, log, "{name}");
+        assert_eq!(seen.log, records(order, terms), "{name}");
     }
 }
 
@@ -79,8 +78,8 @@ fn p10_two_bits_are_equal() {
         }
     );
     assert!(holds(&seen.store, &[]));
-    assert_eq!(seen.gates, TEN_DOWN_TO_FIVE);
-    assert_eq!(seen.terms.last(), Some(&0));
+    assert!(seen.log.iter().map(|step| step.gate).eq(TEN_DOWN_TO_FIVE));
+    assert_eq!(seen.log[9].terms, 0);
 }
 
 #[test]
@@ -108,7 +107,7 @@ fn p11_two_bits_differ_when_signed() {
     assert_eq!(seen.answer, wanted);
     // 4 a0 b1 + 4 a1 b0.
     assert!(holds(&seen.store, &[4, 18, 4, 12]));
-    assert_eq!(seen.terms.last(), Some(&2));
+    assert_eq!(seen.log[9].terms, 2);
 }
 
 #[test]

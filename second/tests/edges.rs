@@ -2,9 +2,9 @@
 
 mod common;
 
-use common::{answered, holds, judged, DOCUMENT};
+use common::{answered, holds, judged, records, DOCUMENT};
 use second::cases::judgements::{all_false, and_netlist, eleven_bits, two_bits, JudgeCase};
-use second::cases::{marked_numbers, marked_words};
+use second::cases::{marked_steps, marked_words};
 use second::netlists::{random_sound, Made};
 use second::random::Random;
 use second::Answer::{Differs, Equal, OutOfRoom, Refused, Unfinished};
@@ -20,7 +20,7 @@ fn twelve_bits_never_fit_128_and_always_fit_169_at_the_start() {
         let seen = judged(&made, 0, 128, &order);
         assert_eq!(seen.answer, OutOfRoom { step: 0, terms: 0 });
         assert!(holds(&seen.store, &[]) && holds(&seen.scratch, &[]));
-        assert_eq!(seen.gates, marked_numbers(order.len()));
+        assert_eq!(seen.log, marked_steps(order.len()));
         let answer = answered(&made, 0, 169, &order);
         assert!(!matches!(answer, OutOfRoom { step: 0, .. }), "{seed}");
     }
@@ -153,17 +153,15 @@ fn out_of_room_at_a_later_step() {
     let order = orders::falling(all_false().counts);
     // Ten product terms below 2^4 throughout; the eight inverted inputs double at each step.
     // At the last step a_0 b_0 cancels one of 256.
-    let log = [12, 14, 18, 26, 42, 74, 255];
+    let terms = [12, 14, 18, 26, 42, 74, 255];
     for limit in [128, 254] {
         let mut case = JudgeCase::new(&all_false(), 2, limit, order.clone());
         case.store_words += 5;
         case.scratch_words += 3;
         let seen = case.seen(&DOCUMENT);
         assert_eq!(seen.answer, OutOfRoom { step: 7, terms: 74 });
-        assert_eq!(seen.gates[..6], order[..6]);
-        assert_eq!(seen.terms[..6], log[..6]);
-        assert_eq!(seen.gates[6], marked_numbers(7)[6]);
-        assert_eq!(seen.terms[6], marked_numbers(7)[6]);
+        assert_eq!(seen.log[..6], records(&order[..6], &terms[..6]));
+        assert_eq!(seen.log[6..], marked_steps(7)[6..]);
         assert!(seen.store[2 * 74 - 2] != 0);
         assert!(holds(&seen.store[2 * 74..], &[]) && holds(&seen.scratch, &[]));
         // The highest set is x9 with the inputs 3 to 8, its sign plus; the lowest is a_0 b_0, minus one.
@@ -179,7 +177,7 @@ fn out_of_room_at_a_later_step() {
         wanted: 0,
     };
     let seen = judged(&all_false(), 2, 255, &order);
-    assert_eq!((seen.answer, seen.terms), (answer, log.to_vec()));
+    assert_eq!((seen.answer, seen.log), (answer, records(&order, &terms)));
 }
 
 #[test]
@@ -257,8 +255,7 @@ fn steps_that_change_nothing_are_steps() {
     let made = Made::new(2, &[6, 0], &[(4, 2), (6, 2)]);
     let seen = judged(&made, 0, 128, &[4, 3, 4, 3]);
     assert_eq!(seen.answer, Equal { steps: 4, terms: 0 });
-    assert_eq!(seen.gates, [4, 3, 4, 3]);
-    assert_eq!(seen.terms, [2, 0, 0, 0]);
+    assert_eq!(seen.log, records(&[4, 3, 4, 3], &[2, 0, 0, 0]));
 }
 
 #[test]
@@ -267,7 +264,7 @@ fn a_gate_stepped_too_early_comes_back() {
     let made = Made::new(2, &[8, 0], &[(4, 2), (6, 6)]);
     let seen = judged(&made, 0, 128, &[3, 4]);
     assert_eq!(seen.answer, Unfinished { steps: 2, terms: 2 });
-    assert_eq!(seen.terms, [2, 2]);
+    assert_eq!(seen.log, records(&[3, 4], &[2, 2]));
     assert!(holds(&seen.store, &[1, 8, 3, 6]));
 }
 
@@ -276,15 +273,12 @@ fn lent_words_past_the_least_are_cleared_and_records_kept() {
     let mut case = JudgeCase::new(&and_netlist(&[7, 0]), 0, 128, vec![3]);
     case.store_words += 9;
     case.scratch_words += 9;
-    case.gate_records += 2;
-    case.term_records += 3;
+    case.log_records += 3;
     let seen = case.seen(&DOCUMENT);
     assert!(holds(&seen.store, &[2, 6, 1, 0]) && holds(&seen.scratch, &[]));
     assert_eq!((seen.store.len(), seen.scratch.len()), (265, 1_033));
-    assert_eq!(seen.gates[0], 3);
-    assert_eq!(seen.gates[1..], marked_numbers(3)[1..]);
-    assert_eq!(seen.terms[0], 2);
-    assert_eq!(seen.terms[1..], marked_numbers(4)[1..]);
+    assert_eq!(seen.log[..1], records(&[3], &[2]));
+    assert_eq!(seen.log[1..], marked_steps(4)[1..]);
 }
 
 #[test]
@@ -295,8 +289,7 @@ fn a_refusal_changes_no_lent_word() {
     assert_eq!(seen.answer, Refused(12));
     assert_eq!(seen.store, marked_words(256));
     assert_eq!(seen.scratch, marked_words(1_023));
-    assert_eq!(seen.gates, marked_numbers(1));
-    assert_eq!(seen.terms, marked_numbers(1));
+    assert_eq!(seen.log, marked_steps(1));
 }
 
 #[test]

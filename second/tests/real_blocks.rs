@@ -52,7 +52,7 @@ fn small_blocks_are_equal_where_there_is_room() {
     for block in small_blocks() {
         for order in orders_for(&block, 3).iter().filter(|o| o.is_honest) {
             let roomy = run(&block, 16_384, &order.steps).unwrap();
-            let first_over = roomy.log.iter().position(|&(_, terms)| terms > 1_024);
+            let first_over = roomy.log.iter().position(|step| step.terms > 1_024);
             let steps = order.steps.len() as u32;
             let expected = match (first_over, roomy.answer) {
                 (None, Answer::OutOfRoom { step, .. }) => step,

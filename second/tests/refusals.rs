@@ -5,7 +5,7 @@ mod common;
 use common::DOCUMENT;
 use second::cases::judgements::{and_netlist, JudgeCase};
 use second::cases::texts::{edited, TextCase, AND_TEXT};
-use second::cases::{marked_numbers, marked_words};
+use second::cases::{marked_numbers, marked_steps, marked_words};
 use second::netlists::Made;
 use second::Answer::{Equal, Refused};
 use second::{desk, evaluate, read, Counts};
@@ -229,8 +229,7 @@ fn judged(case: &JudgeCase) -> u32 {
         Refused(number) => {
             assert_eq!(seen.store, marked_words(case.store_words));
             assert_eq!(seen.scratch, marked_words(case.scratch_words));
-            assert_eq!(seen.gates, marked_numbers(case.gate_records));
-            assert_eq!(seen.terms, marked_numbers(case.term_records));
+            assert_eq!(seen.log, marked_steps(case.log_records));
             number
         }
         answer => {
@@ -261,8 +260,7 @@ fn wrong_things() -> Vec<WrongThing> {
         (11, |case| case.order = vec![3; 4_097]),
         (12, |case| case.store_words = 255),
         (12, |case| case.scratch_words = 1_023),
-        (12, |case| case.gate_records = 0),
-        (12, |case| case.term_records = 0),
+        (12, |case| case.log_records = 0),
     ]
 }
 

@@ -34,8 +34,7 @@ handed kind c table =
       order = falling c;
       store = [];
       scratch = [];
-      gates = [];
-      terms = [];
+      log = [];
     }
 
 -- the desk's judging refuses with the first condition that holds

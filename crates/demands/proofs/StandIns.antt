@@ -6,8 +6,8 @@ use native.Mathlib.Omega.{arith}
 use lib.ListN.{getD}
 use Rattle.rules.specs.Says.{answers, says}
 use Rattle.rules.specs.Bench.{right}
-use Rattle.rules.specs.Judging.{judging, store-after, terms-after}
-use Rattle.demands.specs.StandIns.{handed, and-block, p1, p3, p6, p10, NotRefuseEverything, NotAlwaysEqual, NotTouchNothing, NotReduceAtOnce, NotInventTheCount}
+use Rattle.rules.specs.Judging.{judging, store-after, log-after}
+use Rattle.demands.specs.StandIns.{handed, and-block, p1, p3, p6, p10, first-terms, NotRefuseEverything, NotAlwaysEqual, NotTouchNothing, NotReduceAtOnce, NotInventTheCount}
 
 -- what the judge says of P1, P3 and P6
 p1-says : judging p1 ≡ answers 0 (1 ∷ 0 ∷ [])
@@ -27,21 +27,21 @@ p3-stores : getD (store-after p3) 0 0 ≡ 2
 unfolding right handed and-block p3
 p3-stores = refl
 
-p10-logs : getD (terms-after p10) 0 0 ≡ 10
+p10-logs : first-terms (log-after p10) ≡ 10
 unfolding right handed p10
 p10-logs = refl
 
 -- refusing everything is shut out
 pub not-refuse-everything : NotRefuseEverything
 unfolding says
-not-refuse-everything number store scratch gates terms j =
+not-refuse-everything number store scratch log j =
     let e = j .said ∙ p1-says in
     let z : _≡_ {A = ℕ} 0 1 = cc in omega arith
 
 -- always E is shut out
 pub not-always-equal : NotAlwaysEqual
 unfolding says
-not-always-equal steps held store scratch gates terms j =
+not-always-equal steps held store scratch log j =
     let e = j .said ∙ p3-says in
     let z : _≡_ {A = ℕ} 0 1 = cc in omega arith
 
@@ -52,13 +52,13 @@ not-touch-nothing r j = let e : _≡_ {A = ℕ} 77 2 = ap (λ (list : List ℕ).
 
 -- reducing wholly in the first step is shut out
 pub not-reduce-at-once : NotReduceAtOnce
-not-reduce-at-once r store scratch gates terms none j =
-    let e : getD terms 0 0 ≡ 10 = ap (λ (list : List ℕ). getD list 0 0) (j .term-records) ∙ p10-logs in
+not-reduce-at-once r store scratch log none j =
+    let e : first-terms log ≡ 10 = ap first-terms (j .log-records) ∙ p10-logs in
     omega arith
 
 -- an invented count is shut out
 pub not-invent-the-count : NotInventTheCount
 unfolding says
-not-invent-the-count steps held store scratch gates terms other j =
+not-invent-the-count steps held store scratch log other j =
     let e = j .said ∙ p6-says in
     let z : held ≡ 2 = cc in other z

@@ -15,15 +15,15 @@ use Rattle.rules.specs.Judging.{Inputs, Judged, refusal}
 use Rattle.rules.specs.Desk.{falling}
 use Rattle.rules.specs.declared.answers.Answer.{Answer}
 use Rattle.rules.specs.declared.answers.Answer.the-variants.{Equal, Differs, OutOfRoom, Unfinished}
+use Rattle.rules.specs.declared.answers.StepRecord.{StepRecord}
 use Rattle.rules.specs.declared.counts.Counts.{Counts}
 
 -- an outcome of judging x that the rules permit, and its answer is r
 pub record Answered (x : Inputs) (r : Answer) : Type 0 where
   pub store : List ℕ
   pub scratch : List ℕ
-  pub gates : List ℕ
-  pub terms : List ℕ
-  pub judged : Judged x r store scratch gates terms
+  pub log : List StepRecord
+  pub judged : Judged x r store scratch log
 
 -- n, the bits of an operand
 abbrev pub bits : Inputs → ℕ

@@ -16,6 +16,7 @@ use Rattle.rules.specs.Limits.{most-desk-bytes, most-desk-variables}
 use Rattle.rules.specs.Desk.{desk-table, desk-checks, kind-named, printed, Lined}
 use Rattle.rules.specs.declared.answers.Answer.{Answer}
 use Rattle.rules.specs.declared.answers.Line.{Line}
+use Rattle.rules.specs.declared.answers.StepRecord.{StepRecord}
 use Rattle.rules.specs.declared.answers.Text.{Text}
 use Rattle.rules.specs.declared.answers.Word.{Word}
 use Rattle.rules.specs.declared.counts.Counts.{Counts}
@@ -29,15 +30,15 @@ First (check ∷ later) k = ((check .0 ≡ k) × (check .1 ≡ true)) ⊎ ((chec
 -- the judge refuses with k exactly when condition k holds and none before it
 abbrev pub JudgeRefusedExact : Type 0
 JudgeRefusedExact =
-    (x : Inputs) (r : Answer) (store scratch gates terms : List ℕ) → Judged x r store scratch gates terms
+    (x : Inputs) (r : Answer) (store scratch : List ℕ) (log : List StepRecord) → Judged x r store scratch log
     → (k : ℕ) → (says r ≡ refuses k) ↔ First (checks x) k
 
 -- then every lent word is as it was
 abbrev pub JudgeRefusalKeeps : Type 0
 JudgeRefusalKeeps =
-    (x : Inputs) (r : Answer) (store scratch gates terms : List ℕ) → Judged x r store scratch gates terms
+    (x : Inputs) (r : Answer) (store scratch : List ℕ) (log : List StepRecord) → Judged x r store scratch log
     → (k : ℕ) → says r ≡ refuses k
-    → (store ≡ x .store) × (scratch ≡ x .scratch) × (gates ≡ x .gates) × (terms ≡ x .terms)
+    → (store ≡ x .store) × (scratch ≡ x .scratch) × (log ≡ x .log)
 
 -- the evaluator refuses with k exactly when condition k holds and none before it; it is lent nothing that it may change
 abbrev pub EvaluateRefusedExact : Type 0

@@ -1,11 +1,12 @@
 -- Programs that do not do the work, each shut out by a row of the bench sheet: its outcome is not permitted.
 use mathlib.Core.Path.{_≡_}
-use mathlib.Core.List.{List, [], _∷_}
+use mathlib.Core.List.{List, [], _∷_, map}
 use Prim.Native.Nat.{ℕ}
 use lib.ListN.{getD, replicate}
 use Rattle.rules.specs.Judging.{Inputs, Judged}
 use Rattle.rules.specs.declared.answers.Answer.{Answer}
 use Rattle.rules.specs.declared.answers.Answer.the-variants.{Equal, Unfinished, Refused}
+use Rattle.rules.specs.declared.answers.StepRecord.{StepRecord}
 use Rattle.rules.specs.declared.counts.Counts.{Counts}
 
 -- a plain block at T = 128, with buffers just long enough for sets of one word and every word 77
@@ -19,8 +20,7 @@ handed c table order steps =
       order = order;
       store = replicate 256 77;
       scratch = replicate 1024 77;
-      gates = replicate steps 77;
-      terms = replicate steps 77;
+      log = replicate steps (record { gate = 77; terms = 77 });
     }
 
 -- AND with these two outputs
@@ -48,22 +48,28 @@ p10 =
 -- refusing everything
 abbrev pub NotRefuseEverything : Type 0
 NotRefuseEverything =
-    (number : ℕ) (store scratch gates terms : List ℕ) → Judged p1 (Refused number) store scratch gates terms → ⊥
+    (number : ℕ) (store scratch : List ℕ) (log : List StepRecord) → Judged p1 (Refused number) store scratch log → ⊥
 
 -- always E
 abbrev pub NotAlwaysEqual : Type 0
-NotAlwaysEqual = (steps held : ℕ) (store scratch gates terms : List ℕ) → Judged p3 (Equal steps held) store scratch gates terms → ⊥
+NotAlwaysEqual =
+    (steps held : ℕ) (store scratch : List ℕ) (log : List StepRecord) → Judged p3 (Equal steps held) store scratch log → ⊥
 
 -- touching nothing
 abbrev pub NotTouchNothing : Type 0
-NotTouchNothing = (r : Answer) → Judged p3 r (p3 .store) (p3 .scratch) (p3 .gates) (p3 .terms) → ⊥
+NotTouchNothing = (r : Answer) → Judged p3 r (p3 .store) (p3 .scratch) (p3 .log) → ⊥
+
+-- the terms after the first step, as a log has them
+abbrev pub first-terms : List StepRecord → ℕ
+first-terms log = getD (map (λ (s : StepRecord). s .terms) log) 0 0
 
 -- reducing wholly in the first step and logging the rest: no terms are left after it
 abbrev pub NotReduceAtOnce : Type 0
 NotReduceAtOnce =
-    (r : Answer) (store scratch gates terms : List ℕ) → getD terms 0 0 ≡ 0 → Judged p10 r store scratch gates terms → ⊥
+    (r : Answer) (store scratch : List ℕ) (log : List StepRecord) → first-terms log ≡ 0 → Judged p10 r store scratch log → ⊥
 
 -- inventing the term count: any but the number of terms held
 abbrev pub NotInventTheCount : Type 0
 NotInventTheCount =
-    (steps held : ℕ) (store scratch gates terms : List ℕ) → (held ≡ 2 → ⊥) → Judged p6 (Unfinished steps held) store scratch gates terms → ⊥
+    (steps held : ℕ) (store scratch : List ℕ) (log : List StepRecord) → (held ≡ 2 → ⊥)
+    → Judged p6 (Unfinished steps held) store scratch log → ⊥

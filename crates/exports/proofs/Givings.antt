@@ -12,6 +12,7 @@ use Rattle.rules.specs.Says.{says, Says, refuses, answers, first, refuse-or, te
 use Rattle.rules.specs.Values.{evaluate-checks, evaluating, shown, Evaluated}
 use Rattle.rules.specs.Reading.{reading, reading-says, table-after, ReadAs, netlist, refused, Netlist}
 use Rattle.rules.specs.declared.answers.Answer.{Answer}
+use Rattle.rules.specs.declared.answers.StepRecord.{StepRecord}
 use Rattle.rules.specs.declared.answers.Text.{Text}
 use Rattle.rules.specs.declared.answers.Text.the-variants.{Read, Refused as RefusedText}
 use Rattle.rules.specs.declared.answers.Word.{Word}
@@ -194,19 +195,18 @@ pub answer-says : (a q : Answer) → a ≡ q → says a ≡ says q
 answer-says a q e = ap says e
 
 -- no room for six values
-pub judge-short : (x : Inputs) (lent : List ℕ) → length lent < 6 → JudgeGiven x lent 112 (x .store) (x .scratch) (x .gates) (x .terms) lent
+pub judge-short : (x : Inputs) (lent : List ℕ) → length lent < 6 → JudgeGiven x lent 112 (x .store) (x .scratch) (x .log) lent
 unfolding number-of given
 judge-short x lent h =
     record {
       number = rw (said-short 6 lent (judging x) h);
       store-words = rw (lt-ltb (length lent) 6 h);
       scratch-words = rw (lt-ltb (length lent) 6 h);
-      gate-records = rw (lt-ltb (length lent) 6 h);
-      term-records = rw (lt-ltb (length lent) 6 h);
+      log-records = rw (lt-ltb (length lent) 6 h);
       answer-words = rw (said-short 6 lent (judging x) h);
     }
 
-module _ (x : Inputs) (lent : List ℕ) (a : Answer) (store scratch gates terms : List ℕ) (done : Judged x a store scratch gates terms) where
+module _ (x : Inputs) (lent : List ℕ) (a : Answer) (store scratch : List ℕ) (log : List StepRecord) (done : Judged x a store scratch log) where
   -- the number of a refusal is at most 12
   pub judge-most : Refusing a
   unfolding judging refuse-or refusal checks judge-checks
@@ -218,13 +218,12 @@ module _ (x : Inputs) (lent : List ℕ) (a : Answer) (store scratch gates terms 
 
   -- what the judge says, given
   pub judge-given : (r : ℕ) (exit : List ℕ) → 6 ≤ length lent → (r ≡ number-of (says a)) × (exit ≡ given (says a) lent)
-      → JudgeGiven x lent r store scratch gates terms exit
+      → JudgeGiven x lent r store scratch log exit
   judge-given r exit h put =
       record {
         number = put .0 ∙ rw (said-later 6 lent (judging x) h, done .said);
         store-words = rw (le-ltb (length lent) 6 h) (done .store-words);
         scratch-words = rw (le-ltb (length lent) 6 h) (done .scratch-words);
-        gate-records = rw (le-ltb (length lent) 6 h) (done .gate-records);
-        term-records = rw (le-ltb (length lent) 6 h) (done .term-records);
+        log-records = rw (le-ltb (length lent) 6 h) (done .log-records);
         answer-words = put .1 ∙ rw (said-later 6 lent (judging x) h, done .said);
       }

@@ -1,5 +1,6 @@
 // Judging a block.
 use rules::answers::Answer;
+use rules::answers::StepRecord;
 use rules::counts::Counts;
 ghost use mathlib.Core.Path.{_≡_};
 ghost use mathlib.Core.List.{_∷_, [], _++_};
@@ -79,26 +80,15 @@ pub extern "C" fn hraskell_judge(
     order: &[u32],
     store: &mut [u64],
     scratch: &mut [u64],
-    gates: &mut [u32],
-    terms: &mut [u32],
+    log: &mut [StepRecord],
     answer: &mut [u64],
 ) -> u32
-    ensures { λ r. ⌜ JudgeGiven (handed (record { m = m; i = i; l = l; o = o; a = a }) (now (table .entry)) kind limit (now (order .entry)) (now (store .entry)) (now (scratch .entry)) (now (gates .entry)) (now (terms .entry))) (now (answer .entry)) r (now (store .exit)) (now (scratch .exit)) (now (gates .exit)) (now (terms .exit)) (now (answer .exit)) ⌝ }
+    ensures { λ r. ⌜ JudgeGiven (handed (record { m = m; i = i; l = l; o = o; a = a }) (now (table .entry)) kind limit (now (order .entry)) (now (store .entry)) (now (scratch .entry)) (now (log .entry))) (now (answer .entry)) r (now (store .exit)) (now (scratch .exit)) (now (log .exit)) (now (answer .exit)) ⌝ }
 {
     if answer.len() < 6 {
         return 112;
     }
     let counts = Counts { m, i, l, o, a };
-    let said = judge::judge(
-        counts,
-        table,
-        kind,
-        limit,
-        order,
-        store,
-        scratch,
-        gates,
-        terms,
-    );
+    let said = judge::judge(counts, table, kind, limit, order, store, scratch, log);
     put_answer(said, answer)
 }

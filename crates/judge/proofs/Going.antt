@@ -1,18 +1,19 @@
 -- The run so far, with no code in it: what holds after k steps, how a turn takes it further, and how it ends.
 use mathlib.Core.Path.{_≡_, refl, ap, sym, _∙_}
-use mathlib.Core.Bool.{true, false}
-use mathlib.Core.List.{List, [], _∷_, map}
-use Prim.Native.Nat.{ℕ, zero, suc, _+_, _^_, _<_, _≤_}
-use native.Mathlib.Numerals.{add-one, one-add}
+use mathlib.Core.Bool.{Bool, true, false, cond}
+use mathlib.Core.List.{List, [], _∷_, _++_}
+use Prim.Native.Nat.{ℕ, zero, suc, pred, _+_, _-_, _*_, _^_, _<_, _≤_}
+use native.Mathlib.Numerals.{add-one}
 use native.Mathlib.Omega.{arith}
 use lib.Dec.{leb, ltb}
-use lib.ListN.{length, getD, take, drop, set, replicate, length-append, length-take, length-drop, length-map, List·getD-map, drop-of-length-le}
-use lib.Seq.{drop-cons, take-suc, set-at, append-snoc, length-take-le, getD-drop}
-use borrow.Author.Tests.{lt-ltb, le-ltb, leb-false}
+use lib.ListN.{length, getD, take, drop, set, replicate, length-append, length-take, length-drop, drop-of-length-le}
+use lib.Seq.{drop-cons, take-suc, set-at, append-snoc, length-take-le}
+use borrow.Author.Tests.{lt-ltb, le-ltb, ltb-true, leb-true, leb-false}
 use Rattle.rules.specs.Each.{every}
-use Rattle.rules.specs.Judging.{is-gate, set-width, roomy, held, completed, over}
-use Rattle.rules.specs.Polynomial.{Polynomial}
+use Rattle.rules.specs.Judging.{is-gate, set-width, roomy, held, completed, polynomial-words, padded, over, records}
+use Rattle.rules.specs.Polynomial.{Polynomial, Below}
 use Rattle.rules.specs.Steps.{step, trail}
+use Rattle.rules.specs.declared.answers.StepRecord.{StepRecord}
 use Rattle.rules.specs.declared.counts.Counts.{Counts}
 use Rattle.rules.proofs.Trails.{length-trail}
 use Rattle.demands.proofs.StepShape.{gate-here}
@@ -48,19 +49,37 @@ module _ (limit : ℕ) (list : List Polynomial) (j : ℕ) (h : j < length list) 
   unfolding roomy
   roomy-full l = rw (drop-cons list j [] h, lt-ltb limit (length (getD list j [])) l)
 
-module _ (new old : List ℕ) (k : ℕ) where
-  -- the first entries written over a list leave it as long as it was
-  length-over : k ≤ length new → k ≤ length old → length (over k new old) ≡ length old
+-- a record of each step
+pub length-records : (order : List ℕ) (list : List Polynomial) → length order < length list → length (records order list) ≡ length order
+unfolding records
+length-records [] list h = refl
+length-records (v ∷ order) [] h = absurd (omega arith)
+length-records (v ∷ order) (p ∷ []) h = absurd (omega arith)
+length-records (v ∷ order) (p ∷ q ∷ list) h = ap suc (length-records order (q ∷ list) (omega arith))
+
+-- that of step k has its gate and the terms after it
+record-at : (order : List ℕ) (list : List Polynomial) (k : ℕ) (none : StepRecord) → k < length order → length order < length list
+    → getD (records order list) k none ≡ record { gate = getD order k 0; terms = length (getD list (suc k) []) }
+unfolding records
+record-at [] list k none h l = absurd (omega arith)
+record-at (v ∷ order) [] k none h l = absurd (omega arith)
+record-at (v ∷ order) (p ∷ []) k none h l = absurd (omega arith)
+record-at (v ∷ order) (p ∷ q ∷ list) zero none h l = refl
+record-at (v ∷ order) (p ∷ q ∷ list) (suc k) none h l = record-at order (q ∷ list) k none (omega arith) (omega arith)
+
+module _ (new old : List StepRecord) (k : ℕ) where
+  -- the first records written over a log leave it as long as it was
+  pub length-over : k ≤ length new → k ≤ length old → length (over k new old) ≡ length old
   unfolding over
   length-over n o = simp (length-append, length-take, length-drop) (omega arith)
 
-  -- one entry more
-  over-next : k < length new → k < length old → set (over k new old) k (getD new k 0) ≡ over (k + 1) new old
+  -- one record more
+  over-next : (none : StepRecord) → k < length new → k < length old → set (over k new old) k (getD new k none) ≡ over (k + 1) new old
   unfolding over
-  over-next n o =
+  over-next none n o =
       let l : length (take k new) ≡ k = length-take-le k new (omega arith) in
-      rw (add-one k, drop-cons old k 0 o, set-at (take k new) (getD old k 0) (drop (suc k) old) (getD new k 0) k l, take-suc new k 0 n)
-      (sym (append-snoc (take k new) (getD new k 0) (drop (suc k) old)))
+      rw (add-one k, drop-cons old k none o, set-at (take k new) (getD old k none) (drop (suc k) old) (getD new k none) k l, take-suc new k none n)
+      (sym (append-snoc (take k new) (getD new k none) (drop (suc k) old)))
 
 -- behind the last there is none
 roomy-none : (limit : ℕ) (list : List Polynomial) (j : ℕ) → length list ≤ j → roomy limit (drop j list) ≡ 0
@@ -72,20 +91,19 @@ abbrev pub path : Counts → List ℕ → Polynomial → List ℕ → List Polyn
 path c table first order = trail (2 ^ c .o) c table first order
 
 -- after k steps, each with room: the polynomial is in the store, and the log has k records over what stood there
-pub record Going (c : Counts) (table : List ℕ) (limit : ℕ) (order : List ℕ) (first : Polynomial) (store₀ scratch₀ gates₀ terms₀ : List ℕ)
-    (k count : ℕ) (store scratch gates terms : List ℕ) : Type 0 where
+pub record Going (c : Counts) (table : List ℕ) (limit : ℕ) (order : List ℕ) (first : Polynomial) (store₀ scratch₀ : List ℕ) (log₀ : List StepRecord)
+    (k count : ℕ) (store scratch : List ℕ) (log : List StepRecord) : Type 0 where
   pub within : k ≤ length order
   pub running : Running c table limit count (getD (path c table first order) k []) store scratch
   pub store-lent : length store ≡ length store₀
   pub scratch-lent : length scratch ≡ length scratch₀
   pub room : roomy limit (path c table first order) ≡ suc k + roomy limit (drop (suc k) (path c table first order))
-  pub gate-records : gates ≡ over k order gates₀
-  pub term-records : terms ≡ over k (map length (drop 1 (path c table first order))) terms₀
+  pub log-records : log ≡ over k (records order (path c table first order)) log₀
 
-module _ {c : Counts} {table : List ℕ} {limit : ℕ} {order : List ℕ} {first : Polynomial} {store₀ scratch₀ gates₀ terms₀ : List ℕ} where
+module _ {c : Counts} {table : List ℕ} {limit : ℕ} {order : List ℕ} {first : Polynomial} {store₀ scratch₀ : List ℕ} {log₀ : List StepRecord} where
   -- before the first step
   pub going-first : {count : ℕ} → Running c table limit count first store₀ scratch₀
-      → Going c table limit order first store₀ scratch₀ gates₀ terms₀ 0 count store₀ scratch₀ gates₀ terms₀
+      → Going c table limit order first store₀ scratch₀ log₀ 0 count store₀ scratch₀ log₀
   unfolding over
   going-first {count} r =
       let e : getD (path c table first order) 0 [] ≡ first = trail-first (2 ^ c .o) c table first order in
@@ -98,21 +116,18 @@ module _ {c : Counts} {table : List ℕ} {limit : ℕ} {order : List ℕ} {first
         store-lent = refl;
         scratch-lent = refl;
         room = omega arith;
-        gate-records = refl;
-        term-records = refl;
+        log-records = refl;
       }
 
-  module _ {k count : ℕ} {store scratch gates terms : List ℕ}
-      (g : Going c table limit order first store₀ scratch₀ gates₀ terms₀ k count store scratch gates terms) where
+  module _ {k count : ℕ} {store scratch : List ℕ} {log : List StepRecord}
+      (g : Going c table limit order first store₀ scratch₀ log₀ k count store scratch log) where
     -- the log is as long as it was
-    pub gates-lent : length order ≤ length gates₀ → length gates ≡ length gates₀
-    gates-lent l = ap length (g .gate-records) ∙ length-over order gates₀ k (g .within) (omega (arith, g .within))
-
-    pub terms-lent : length order ≤ length terms₀ → length terms ≡ length terms₀
-    terms-lent l =
+    pub log-lent : length order ≤ length log₀ → length log ≡ length log₀
+    log-lent l =
         let all : length (path c table first order) ≡ suc (length order) = length-trail (2 ^ c .o) c table first order in
-        let long : k ≤ length (map length (drop 1 (path c table first order))) = simp (length-map, length-drop) (omega (arith, g .within)) in
-        ap length (g .term-records) ∙ length-over (map length (drop 1 (path c table first order))) terms₀ k long (omega (arith, g .within))
+        let new : length (records order (path c table first order)) ≡ length order = length-records order (path c table first order) (omega arith) in
+        ap length (g .log-records)
+        ∙ length-over (records order (path c table first order)) log₀ k (omega (arith, g .within)) (omega (arith, g .within))
 
     -- what a turn asks is there
     pub going-ready : k < length order → every (is-gate c) order ≡ true
@@ -123,7 +138,7 @@ module _ {c : Counts} {table : List ℕ} {limit : ℕ} {order : List ℕ} {first
 
     -- the polynomial held at the end, where the next has no room or there is none
     finish : roomy limit (path c table first order) ≡ suc k → (r : Ran) → r .fits ≡ ltb (length order) (suc k) → r .steps ≡ k → r .terms ≡ count
-        → Finished c limit order (path c table first order) store₀ scratch₀ gates₀ terms₀ r store (replicate (length scratch₀) 0) gates terms
+        → Finished c limit order (path c table first order) store₀ scratch₀ log₀ r store (replicate (length scratch₀) 0) log
     unfolding held completed
     finish e r fits steps counted =
         record {
@@ -134,13 +149,12 @@ module _ {c : Counts} {table : List ℕ} {limit : ℕ} {order : List ℕ} {first
           falls = rw e (g .running .falls);
           store-words = rw (e, ← g .store-lent) (g .running .kept);
           scratch-words = refl;
-          gate-records = rw e (g .gate-records);
-          term-records = rw e (g .term-records);
+          log-records = rw e (g .log-records);
         }
 
     -- after the last step
     pub going-end : k ≡ length order → (r : Ran) → r .fits ≡ true → r .steps ≡ k → r .terms ≡ count
-        → Finished c limit order (path c table first order) store₀ scratch₀ gates₀ terms₀ r store scratch gates terms
+        → Finished c limit order (path c table first order) store₀ scratch₀ log₀ r store scratch log
     going-end e r fits steps counted =
         let clean : scratch ≡ replicate (length scratch₀) 0 = rw (g .scratch-lent) at (g .running .clean) in
         let last : roomy limit (drop (suc k) (path c table first order)) ≡ 0 =
@@ -156,7 +170,7 @@ module _ {c : Counts} {table : List ℕ} {limit : ℕ} {order : List ℕ} {first
 
       -- a turn without room ends the run
       pub going-full : t .fits ≡ false → (r : Ran) → r .fits ≡ false → r .steps ≡ k → r .terms ≡ count
-          → Finished c limit order (path c table first order) store₀ scratch₀ gates₀ terms₀ r store′ scratch′ gates terms
+          → Finished c limit order (path c table first order) store₀ scratch₀ log₀ r store′ scratch′ log
       going-full full r fits steps counted =
           let t′ = turned-next in
           let over-limit : leb (length (getD (path c table first order) (suc k) [])) limit ≡ false = sym (t′ .fits) ∙ full in
@@ -167,9 +181,9 @@ module _ {c : Counts} {table : List ℕ} {limit : ℕ} {order : List ℕ} {first
           rw (same, clean) (finish (omega (arith, g .room)) r (fits ∙ sym (le-ltb (length order) (suc k) (omega arith))) steps counted)
 
       -- a turn with room is one step more
-      pub going-more : length order ≤ length gates₀ → length order ≤ length terms₀ → t .fits ≡ true
-          → Going c table limit order first store₀ scratch₀ gates₀ terms₀ (k + 1) (t .terms) store′ scratch′ (set gates k (t .gate)) (set terms k (t .terms))
-      going-more long-gates long-terms fits =
+      pub going-more : length order ≤ length log₀ → t .fits ≡ true
+          → Going c table limit order first store₀ scratch₀ log₀ (k + 1) (t .terms) store′ scratch′ (set log k (record { gate = t .gate; terms = t .terms }))
+      going-more long fits =
           let t′ = turned-next in
           let gate = gate-here c order every-gate k h in
           let normal = step-normal (g .running) (getD order k 0) (gate .0) (gate .1) in
@@ -180,19 +194,15 @@ module _ {c : Counts} {table : List ℕ} {limit : ℕ} {order : List ℕ} {first
           let more : k + 1 ≡ suc k = add-one k in
           let all : length (path c table first order) ≡ suc (length order) = length-trail (2 ^ c .o) c table first order in
           let few : length (getD (path c table first order) (suc k) []) ≤ limit = omega (arith, m .running .counted, m .running .few) in
-          let records : List ℕ = map length (drop 1 (path c table first order)) in
-          let long-records : k < length records = simp (length-map, length-drop) (omega arith) in
-          let counted : getD records k 0 ≡ t .terms =
-          List·getD-map length (drop 1 (path c table first order)) k []
-          ∙ ap length (getD-drop 1 (path c table first order) k [])
-          ∙ ap (λ (n : ℕ). length (getD (path c table first order) n [])) (one-add k)
-          ∙ sym (m .running .counted) in
+          let new : length (records order (path c table first order)) ≡ length order = length-records order (path c table first order) (omega arith) in
+          let none : StepRecord = record { gate = 0; terms = 0 } in
+          let here : record { gate = t .gate; terms = t .terms } ≡ getD (records order (path c table first order)) k none =
+          rw (record-at order (path c table first order) k none h (omega arith), ← m .running .counted, turned .gate) refl in
           record {
             within = omega arith;
             running = rw more (m .running);
             store-lent = m .store-lent ∙ g .store-lent;
             scratch-lent = m .scratch-lent ∙ g .scratch-lent;
             room = rw more (omega (arith, g .room, roomy-next limit (path c table first order) (suc k) (omega arith) few));
-            gate-records = rw (g .gate-records, turned .gate) (over-next order gates₀ k h (omega arith));
-            term-records = rw (g .term-records, ← counted) (over-next records terms₀ k long-records (omega arith));
+            log-records = rw (g .log-records, here) (over-next (records order (path c table first order)) log₀ k none (omega arith) (omega arith));
           }

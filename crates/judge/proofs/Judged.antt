@@ -1,27 +1,34 @@
 -- The judge's outcome: a refusal that keeps every word, or what is decided once the checks have passed.
-use mathlib.Core.Path.{_≡_, refl}
+use mathlib.Core.Path.{_≡_, refl, sym, _∙_, subst}
 use mathlib.Core.Bool.{Bool, true, false, not, cond, _||_}
-use mathlib.Core.List.{List}
-use Prim.Native.Nat.{ℕ, zero, suc, _*_, _≤_}
+use mathlib.Core.List.{List, [], _∷_}
+use Prim.Native.Nat.{ℕ, zero, suc, _+_, _*_, _≤_}
 use native.Mathlib.Omega.{arith}
-use lib.Dec.{ltb, eqb}
+use lib.Dec.{T, leb, ltb, eqb}
 use lib.ListN.{length}
-use borrow.Author.Tests.{ltb-false, eqb-true, not-false}
+use borrow.Author.Tests.{ltb-false, leb-true, leb-false, eqb-true, not-false}
 use Rattle.rules.specs.Each.{every}
-use Rattle.rules.specs.Judging.{Inputs, Judged, is-gate, term-width, kind-wrong, order-wrong, lent-short, judge-checks}
-use Rattle.rules.specs.Judging.{checks, refusal, polynomials, judging, store-after, scratch-after, gates-after, terms-after, kept-or}
+use Rattle.rules.specs.Judging.{Inputs, Judged, is-gate, set-width, term-width, kind-wrong, order-wrong, lent-short, judge-checks, ended}
+use Rattle.rules.specs.Judging.{checks, refusal, polynomials, judging, store-after, scratch-after, log-after, kept-or}
 use Rattle.rules.specs.Limits.{most-steps, terms-wrong, steps-wrong}
 use Rattle.rules.specs.Netlist.{counts-wrong, table-short, table-unsound}
 use Rattle.rules.specs.Product.{kind-of, kind-unknown, outputs-of}
-use Rattle.rules.specs.Says.{says, first, refuse-or}
+use Rattle.rules.specs.Says.{refuses, answers, says, first, refuse-or}
+use Rattle.rules.specs.Steps.{start}
 use Rattle.rules.specs.Values.{width}
 use Rattle.rules.specs.declared.answers.Answer.{Answer}
-use Rattle.rules.specs.declared.answers.Answer.the-variants.{Refused}
+use Rattle.rules.specs.declared.answers.StepRecord.{StepRecord}
 use Rattle.rules.specs.declared.counts.Counts.{Counts}
+use Rattle.words.specs.Stored.{decoded}
 use Rattle.netlist.proofs.Facts.{passed as fitting}
 use Rattle.product.proofs.Readings.{kind-known}
-use Rattle.judge.specs.Deciding.{handed, Passed, Decided}
+use Rattle.judge.specs.Running.{Running, Finished}
+use Rattle.judge.specs.Deciding.{handed, Passed, Begun, SetOut, stop, Closing, last, Decided}
+use Rattle.judge.specs.declared.deciding.Outset.{Outset}
+use Rattle.judge.specs.declared.run.Ran.{Ran}
 use Rattle.judge.proofs.Checked.{neither, limit-small, four-times, row-later}
+use Rattle.judge.proofs.Going.{path}
+use Rattle.judge.proofs.Opened.{Opened, opened, decided-none, closing, decided-last}
 
 -- an order that is not too long
 steps-few : (n : ℕ) → steps-wrong n ≡ false → n ≤ most-steps
@@ -35,25 +42,41 @@ later-passed false true c h = absurd (omega arith)
 later-passed false false true h = absurd (omega arith)
 later-passed false false false h = (refl, refl, refl)
 
-module _ (c : Counts) (table : List ℕ) (kind limit : ℕ) (order store scratch gates terms : List ℕ) where
-  abbrev input : Inputs
-  input = handed c table kind limit order store scratch gates terms
+-- what is said of a refusal, and of none
+pub stop-some : (k : ℕ) → (k ≡ 0 → ⊥) → refuses k ≡ stop k
+unfolding stop
+stop-some zero h = absurd (h refl)
+stop-some (suc k) h = refl
 
+pub stop-none : (k : ℕ) → k ≡ 0 → answers 2 (0 ∷ 0 ∷ []) ≡ stop k
+unfolding stop
+stop-none zero e = refl
+stop-none (suc k) e = absurd (omega arith)
+
+-- what is said after a run, without room and with it
+module _ (c : Counts) (table : List ℕ) (kind : ℕ) (ran : Ran) (store : List ℕ) where
+  pub last-full : ran .fits ≡ false → answers 2 ((ran .steps + 1) ∷ ran .terms ∷ []) ≡ last c table kind ran store
+  unfolding last
+  last-full e = rw e
+
+  pub last-ended : ran .fits ≡ true → ended (kind-of kind) c table (ran .steps) (decoded (set-width c) (ran .terms) store) ≡ last c table kind ran store
+  unfolding last
+  last-ended e = rw e
+
+module _ (c : Counts) (table : List ℕ) (kind limit : ℕ) (order store scratch : List ℕ) where
   -- what it says that no check holds
-  pub all-passed : refusal input ≡ 0 → Passed c table kind limit order store scratch gates terms
-  unfolding refusal checks judge-checks first kind-wrong order-wrong lent-short
-  all-passed h =
+  pub all-passed : (log : ℕ) → first (judge-checks c table kind limit order (length store) (length scratch) log) ≡ 0
+      → Passed c table kind limit order store scratch log
+  unfolding judge-checks first kind-wrong order-wrong lent-short
+  all-passed log h =
       let four = row-later (counts-wrong c) (table-short c (length table)) (table-unsound c table) (kind-wrong c kind) _ h in
-      let three = later-passed (terms-wrong limit) (order-wrong c order)
-      (lent-short c limit (length order) (length store) (length scratch) (length gates) (length terms)) (four .4) in
+      let three = later-passed (terms-wrong limit) (order-wrong c order) (lent-short c limit (length order) (length store) (length scratch) log) (four .4) in
       let kinds = neither (kind-unknown kind) (not (eqb (c .o) (outputs-of (kind-of kind) (width c)))) (four .3) in
       let orders = neither (steps-wrong (length order)) (not (every (is-gate c) order)) (three .1) in
       let short-store = ltb (length store) (limit * term-width c) in
       let short-scratch = ltb (length scratch) (4 * limit * term-width c) in
-      let short-gates = ltb (length gates) (length order) in
-      let lents = neither (short-store || short-scratch || short-gates) (ltb (length terms) (length order)) (three .2) in
-      let words-gates = neither (short-store || short-scratch) short-gates (lents .0) in
-      let words = neither short-store short-scratch (words-gates .0) in
+      let lents = neither (short-store || short-scratch) (ltb log (length order)) (three .2) in
+      let words = neither short-store short-scratch (lents .0) in
       record {
         block = record {
           sound = record { fitting = fitting (four .0) (four .1); literals = four .2 };
@@ -65,32 +88,98 @@ module _ (c : Counts) (table : List ℕ) (kind limit : ℕ) (order store scratch
         };
         short = steps-few (length order) (orders .0);
         gates-only = not-false (every (is-gate c) order) (orders .1);
-        gates-room = ltb-false (length gates) (length order) (words-gates .1);
-        terms-room = ltb-false (length terms) (length order) (lents .1);
+        log-room = ltb-false log (length order) (lents .1);
       }
 
-  -- a refusal changes no word
-  pub judged-refused : (number : ℕ) → number ≡ refusal input → (number ≡ 0 → ⊥) → Judged input (Refused number) store scratch gates terms
-  unfolding says judging store-after scratch-after gates-after terms-after refuse-or kept-or
-  judged-refused zero e h = absurd (h refl)
-  judged-refused (suc k) e h =
-      record {
-        said = rw (← e);
-        store-words = rw (← e);
-        scratch-words = rw (← e);
-        gate-records = rw (← e);
-        term-records = rw (← e);
-      }
+  -- a refusal sets nothing out
+  pub set-out-refused : {lent : ℕ} {o : Outset} → o .number ≡ first (judge-checks c table kind limit order (length store) (length scratch) lent)
+      → (o .number ≡ 0 → ⊥) → o .begun ≡ false → SetOut c table kind limit order lent store scratch o store scratch
+  set-out-refused e some off = record { refused = e; still = λ h. (off, refl, refl); started = λ z. absurd (some z) }
 
-  -- nothing refused: what is decided
-  pub judged-decided : refusal input ≡ 0 → {r : Answer} {store′ scratch′ gates′ terms′ : List ℕ}
-      → Decided c table kind limit order store scratch gates terms r store′ scratch′ gates′ terms′ → Judged input r store′ scratch′ gates′ terms′
-  unfolding judging store-after scratch-after gates-after terms-after refuse-or kept-or polynomials
-  judged-decided e d =
-      record {
-        said = rw e (d .said);
-        store-words = rw e (d .store-words);
-        scratch-words = rw e (d .scratch-words);
-        gate-records = rw e (d .gate-records);
-        term-records = rw e (d .term-records);
-      }
+  -- without one the start is set out
+  pub set-out-started : {lent : ℕ} {o : Outset} {store′ scratch′ : List ℕ}
+      → o .number ≡ first (judge-checks c table kind limit order (length store) (length scratch) lent) → o .number ≡ 0
+      → Begun c limit (start (kind-of kind) c table) store scratch (o .held) store′ scratch′ → o .begun ≡ leb (o .held) limit
+      → SetOut c table kind limit order lent store scratch o store′ scratch′
+  set-out-started e none b on = record { refused = e; still = λ some. absurd (some none); started = λ z. (b, on) }
+
+  module _ (log : List StepRecord) where
+    abbrev input : Inputs
+    input = handed c table kind limit order store scratch log
+
+    -- a refusal changes no word
+    judged-refused : (number : ℕ) → number ≡ refusal input → (number ≡ 0 → ⊥) → {r : Answer} → says r ≡ stop number → Judged input r store scratch log
+    unfolding stop judging store-after scratch-after log-after refuse-or kept-or
+    judged-refused zero e h said = absurd (h refl)
+    judged-refused (suc k) e h said =
+        record {
+          said = said ∙ rw (← e);
+          store-words = rw (← e);
+          scratch-words = rw (← e);
+          log-records = rw (← e);
+        }
+
+    -- nothing refused: what is decided
+    judged-decided : refusal input ≡ 0 → {r : Answer} {store′ scratch′ : List ℕ} {log′ : List StepRecord}
+        → Decided c table kind limit order store scratch log r store′ scratch′ log′ → Judged input r store′ scratch′ log′
+    unfolding judging store-after scratch-after log-after refuse-or kept-or polynomials
+    judged-decided e d =
+        record {
+          said = rw e (d .said);
+          store-words = rw e (d .store-words);
+          scratch-words = rw e (d .scratch-words);
+          log-records = rw e (d .log-records);
+        }
+
+    module _ {o : Outset} {store₁ scratch₁ : List ℕ} (s : SetOut c table kind limit order (length log) store scratch o store₁ scratch₁) where
+      -- the number is the refusal
+      number-is : o .number ≡ refusal input
+      unfolding refusal checks
+      number-is = s .refused
+
+      -- where no run begins, the outcome is the refusal, or no room at the start
+      pub judged-stopped : o .begun ≡ false → {r : Answer} → says r ≡ stop (o .number) → Judged input r store₁ scratch₁ log
+      unfolding stop
+      judged-stopped off {r} said = go (o .number) refl
+        where
+          go : (n : ℕ) → o .number ≡ n → Judged input r store₁ scratch₁ log
+          go zero e =
+              let b = s .started e in
+              judged-decided (sym number-is ∙ e)
+              (decided-none (all-passed (length log) (sym (s .refused) ∙ e)) (b .0) (leb-false (o .held) limit (sym (b .1) ∙ off)) r (rw e at said))
+          go (suc k) e =
+              let some : o .number ≡ 0 → ⊥ = λ z. omega arith in
+              let same = s .still some in
+              rw (same .1, same .2) (judged-refused (o .number) number-is some said)
+
+      module _ (on : o .begun ≡ true) where
+        -- a run begins only where nothing is refused
+        none-refused : o .number ≡ 0
+        none-refused = go (o .number) refl
+          where
+            go : (n : ℕ) → o .number ≡ n → o .number ≡ 0
+            go zero e = e
+            go (suc k) e = absurd (subst T (sym on ∙ s .still (λ z. omega arith) .0) tt)
+
+        passed : Passed c table kind limit order store scratch (length log)
+        passed = all-passed (length log) (sym (s .refused) ∙ none-refused)
+
+        start-opened : Opened c table limit (start (kind-of kind) c table) store scratch (o .held) store₁ scratch₁
+        start-opened =
+            let b = s .started none-refused in
+            opened (passed .block) (b .0) (leb-true (o .held) limit (sym (b .1) ∙ on))
+
+        -- what the run asks is there
+        pub run-ready : Running c table limit (o .held) (decoded (set-width c) (o .held) store₁) store₁ scratch₁
+            × (every (is-gate c) order ≡ true) × (length order ≤ length log)
+        run-ready = (start-opened .running, passed .gates-only, passed .log-room)
+
+        module _ {ran : Ran} {store₂ scratch₂ : List ℕ} {log₂ : List StepRecord}
+            (f : Finished c limit order (path c table (decoded (set-width c) (o .held) store₁) order) store₁ scratch₁ log ran store₂ scratch₂ log₂) where
+          -- what the answer after it asks is there
+          pub ran-closing : Closing c table kind ran store₂
+          ran-closing = closing passed start-opened f
+
+          -- and with it the outcome is the one permitted
+          pub judged-last : {r : Answer} → says r ≡ last c table kind ran store₂ → Judged input r store₂ scratch₂ log₂
+          judged-last {r} said = judged-decided (sym number-is ∙ none-refused) (decided-last passed start-opened f r said)

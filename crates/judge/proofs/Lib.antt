@@ -2,6 +2,9 @@
 pub mod Checked
 pub mod Held
 pub mod Going
+pub mod Place
 pub mod Ended
 pub mod Opened
 pub mod Judged
+pub mod Again
+pub mod LocalArray

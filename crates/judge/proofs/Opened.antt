@@ -19,6 +19,7 @@ use Rattle.rules.specs.Says.{says, answers}
 use Rattle.rules.specs.Steps.{modulus, start, trail, run, after}
 use Rattle.rules.specs.Values.{width}
 use Rattle.rules.specs.declared.answers.Answer.{Answer}
+use Rattle.rules.specs.declared.answers.StepRecord.{StepRecord}
 use Rattle.rules.specs.declared.counts.Counts.{Counts}
 use Rattle.rules.proofs.Sound.{right-counts, sound-table}
 use Rattle.words.specs.Stored.{decoded}
@@ -30,7 +31,7 @@ use Rattle.demands.proofs.TermLimit.{roomy-le}
 use Rattle.poly.specs.Start.{Asked, Started, counted, within}
 use Rattle.judge.specs.Running.{Running, Finished}
 use Rattle.judge.specs.Ending.{Evens, Ending}
-use Rattle.judge.specs.Deciding.{Block, Passed, Begun, Decided}
+use Rattle.judge.specs.Deciding.{Block, Passed, Begun, Closing, Decided, last}
 use Rattle.judge.specs.declared.run.Ran.{Ran}
 use Rattle.judge.proofs.Held.{decoded-held, length-padded, words-fit, running-decoded, Laid, laid}
 use Rattle.judge.proofs.Going.{path, trail-first, roomy-full, roomy-next}
@@ -117,8 +118,8 @@ module _ {c : Counts} {table : List ℕ} {kind limit : ℕ} {store scratch : Lis
           record { running = rw same (l .running); same = same; few = few; store-lent = l .store-lent; scratch-lent = l .scratch-lent }
       go false e = let n : r ≡ limit + 1 = rw e at (g .written .count) in absurd (omega arith)
 
-module _ {c : Counts} {table : List ℕ} {kind limit : ℕ} {order store scratch gates terms : List ℕ}
-    (p : Passed c table kind limit order store scratch gates terms) where
+module _ {c : Counts} {table : List ℕ} {kind limit : ℕ} {order store scratch : List ℕ} {lent : ℕ}
+    (p : Passed c table kind limit order store scratch lent) where
   abbrev first : Polynomial
   first = start (kind-of kind) c table
 
@@ -133,12 +134,12 @@ module _ {c : Counts} {table : List ℕ} {kind limit : ℕ} {order store scratch
   all-first = (rw all-path (trail-first (2 ^ c .o) c table first order), omega (arith, length-run (kind-of kind) c table order))
 
   -- no room at the start: R at step 0
-  pub decided-none : {r : ℕ} {store′ scratch′ : List ℕ} → Begun c limit first store scratch r store′ scratch′ → limit < r
-      → (a : Answer) → says a ≡ answers 2 (0 ∷ 0 ∷ []) → Decided c table kind limit order store scratch gates terms a store′ scratch′ gates terms
+  pub decided-none : {r : ℕ} {store′ scratch′ : List ℕ} {log : List StepRecord} → Begun c limit first store scratch r store′ scratch′ → limit < r
+      → (a : Answer) → says a ≡ answers 2 (0 ∷ 0 ∷ []) → Decided c table kind limit order store scratch log a store′ scratch′ log
   unfolding held completed over verdict counted within
-  decided-none {r} {store′} {scratch′} g l a said = go (leb (length first) limit) refl
+  decided-none {r} {store′} {scratch′} {log} g l a said = go (leb (length first) limit) refl
     where
-      go : (t : Bool) → leb (length first) limit ≡ t → Decided c table kind limit order store scratch gates terms a store′ scratch′ gates terms
+      go : (t : Bool) → leb (length first) limit ≡ t → Decided c table kind limit order store scratch log a store′ scratch′ log
       go true e =
           let n : r ≡ length first = rw e at (g .written .count) in
           absurd (omega (arith, leb-true (length first) limit e))
@@ -149,14 +150,13 @@ module _ {c : Counts} {table : List ℕ} {kind limit : ℕ} {order store scratch
             said = said ∙ rw (none, le-leb 0 (length order) (omega arith));
             store-words = rw none (rw e at (g .written .words));
             scratch-words = g .scratch-words;
-            gate-records = rw none;
-            term-records = rw none;
+            log-records = rw none;
           }
 
-  module _ {r : ℕ} {store₁ scratch₁ : List ℕ} (o : Opened c table limit first store scratch r store₁ scratch₁) {ran : Ran} {store₂ scratch₂ gates₂ terms₂ : List ℕ}
-      (f : Finished c limit order (path c table (decoded (set-width c) r store₁) order) store₁ scratch₁ gates terms ran store₂ scratch₂ gates₂ terms₂) where
+  module _ {r : ℕ} {store₁ scratch₁ : List ℕ} (o : Opened c table limit first store scratch r store₁ scratch₁) {log : List StepRecord} {ran : Ran} {store₂ scratch₂ : List ℕ} {log₂ : List StepRecord}
+      (f : Finished c limit order (path c table (decoded (set-width c) r store₁) order) store₁ scratch₁ log ran store₂ scratch₂ log₂) where
     -- the run was that of the rules
-    finished : Finished c limit order all store₁ scratch₁ gates terms ran store₂ scratch₂ gates₂ terms₂
+    finished : Finished c limit order all store₁ scratch₁ log ran store₂ scratch₂ log₂
     finished = rw (all-path, ← o .same) f
 
     -- the start had room
@@ -168,15 +168,14 @@ module _ {c : Counts} {table : List ℕ} {kind limit : ℕ} {order store scratch
 
     -- what the run leaves, with its answer
     decided : (a : Answer) → says a ≡ verdict (kind-of kind) c table limit order
-        → Decided c table kind limit order store scratch gates terms a store₂ scratch₂ gates₂ terms₂
+        → Decided c table kind limit order store scratch log a store₂ scratch₂ log₂
     decided a said =
         let g = finished in
         record {
           said = said;
           store-words = rw (o .store-lent) at (g .store-words);
           scratch-words = rw (o .scratch-lent) at (g .scratch-words);
-          gate-records = g .gate-records;
-          term-records = g .term-records;
+          log-records = g .log-records;
         }
 
     -- the steps completed, and the start
@@ -184,13 +183,13 @@ module _ {c : Counts} {table : List ℕ} {kind limit : ℕ} {order store scratch
     unfolding completed
     steps-room = ap (λ (n : ℕ). n + 1) (finished .steps) ∙ pred-more (roomy limit all) some-room
 
-    -- a step without room comes before the order's end
-    pub full-within : ran .fits ≡ false → ran .steps + 1 ≤ length order
-    full-within full = omega (arith, steps-room, ltb-false (length order) (roomy limit all) (sym (finished .fits) ∙ full))
+    -- no more steps are completed than there are
+    steps-within : ran .steps ≤ length order
+    steps-within = omega (arith, steps-room, roomy-le limit all, length-run (kind-of kind) c table order)
 
     -- R at a later step
-    pub decided-full : ran .fits ≡ false → (a : Answer) → says a ≡ answers 2 ((ran .steps + 1) ∷ ran .terms ∷ [])
-        → Decided c table kind limit order store scratch gates terms a store₂ scratch₂ gates₂ terms₂
+    decided-full : ran .fits ≡ false → (a : Answer) → says a ≡ answers 2 ((ran .steps + 1) ∷ ran .terms ∷ [])
+        → Decided c table kind limit order store scratch log a store₂ scratch₂ log₂
     unfolding verdict
     decided-full full a said =
         let g = finished in
@@ -213,7 +212,7 @@ module _ {c : Counts} {table : List ℕ} {kind limit : ℕ} {order store scratch
         go (suc k) l h = evens-of (getD all k []) (false-absent (kind-of kind) c table order k (omega arith))
 
     -- what the answer asks of the store is there
-    pub ending : Ending c table kind (ran .terms) store₂
+    ending : Ending c table kind (ran .terms) store₂
     ending =
         let g = finished in
         let few : length (held limit all) ≤ limit = omega (arith, g .few, g .counted) in
@@ -228,11 +227,24 @@ module _ {c : Counts} {table : List ℕ} {kind limit : ℕ} {order store scratch
         }
 
     -- E, D or U by the last polynomial
-    pub decided-ended : ran .fits ≡ true → (a : Answer) → says a ≡ ended (kind-of kind) c table (ran .steps) (decoded (set-width c) (ran .terms) store₂)
-        → Decided c table kind limit order store scratch gates terms a store₂ scratch₂ gates₂ terms₂
+    decided-ended : ran .fits ≡ true → (a : Answer) → says a ≡ ended (kind-of kind) c table (ran .steps) (decoded (set-width c) (ran .terms) store₂)
+        → Decided c table kind limit order store scratch log a store₂ scratch₂ log₂
     unfolding verdict
     decided-ended fits a said =
         let g = finished in
         let last : length order < roomy limit all = ltb-true (length order) (roomy limit all) (sym (g .fits) ∙ fits) in
         let steps : ran .steps ≡ length order = omega (arith, steps-room, roomy-le limit all, length-run (kind-of kind) c table order) in
         decided a (said ∙ rw (steps, held-words, lt-leb (roomy limit all) (length order) last))
+
+    -- what the answer after the run asks is there
+    pub closing : Closing c table kind ran store₂
+    closing = record { short = omega (arith, steps-within, p .short); ending = ending }
+
+    -- and with it the outcome is decided
+    pub decided-last : (a : Answer) → says a ≡ last c table kind ran store₂ → Decided c table kind limit order store scratch log a store₂ scratch₂ log₂
+    unfolding last
+    decided-last a said = go (ran .fits) refl
+      where
+        go : (t : Bool) → ran .fits ≡ t → Decided c table kind limit order store scratch log a store₂ scratch₂ log₂
+        go true e = decided-ended e a (rw e at said)
+        go false e = decided-full e a (rw e at said)

@@ -1,25 +1,31 @@
--- The judge once nothing is refused: what the checks leave, what the start leaves, and the outcome.
+-- The judge: what the checks leave, what comes before the run and after it, and the outcome.
 use mathlib.Core.Path.{_≡_}
-use mathlib.Core.Bool.{true}
-use mathlib.Core.List.{List, map}
-use Prim.Native.Nat.{ℕ, _*_, _≤_}
-use lib.ListN.{length, drop, replicate}
+use mathlib.Core.Bool.{true, false, cond}
+use mathlib.Core.List.{List, [], _∷_}
+use Prim.Native.Nat.{ℕ, zero, suc, _+_, _*_, _≤_}
+use lib.Dec.{leb}
+use lib.ListN.{length, replicate}
 use Rattle.rules.specs.Each.{every}
-use Rattle.rules.specs.Judging.{Inputs, is-gate, set-width, term-width, held, completed, verdict, polynomial-words, padded, over}
+use Rattle.rules.specs.Judging.{Inputs, is-gate, set-width, term-width, judge-checks, held, completed, ended, verdict, polynomial-words, padded, over, records, judging, store-after, scratch-after}
 use Rattle.rules.specs.Limits.{most-terms, most-steps}
 use Rattle.rules.specs.Polynomial.{Polynomial}
 use Rattle.rules.specs.Product.{kind-of, outputs-of}
-use Rattle.rules.specs.Says.{says}
-use Rattle.rules.specs.Steps.{run}
+use Rattle.rules.specs.Says.{Says, refuses, answers, first, says}
+use Rattle.rules.specs.Steps.{start, run}
 use Rattle.rules.specs.Values.{width}
 use Rattle.rules.specs.declared.answers.Answer.{Answer}
+use Rattle.rules.specs.declared.answers.StepRecord.{StepRecord}
 use Rattle.rules.specs.declared.counts.Counts.{Counts}
 use Rattle.netlist.specs.Taken.{Sound}
+use Rattle.words.specs.Stored.{decoded}
 use Rattle.poly.specs.Start.{Started}
+use Rattle.judge.specs.Ending.{Ending}
+use Rattle.judge.specs.declared.deciding.Outset.{Outset}
+use Rattle.judge.specs.declared.run.Ran.{Ran}
 
 -- everything that the judge is handed, in the order of its parameters
-abbrev pub handed : Counts → List ℕ → ℕ → ℕ → List ℕ → List ℕ → List ℕ → List ℕ → List ℕ → Inputs
-handed c table kind limit order store scratch gates terms =
+abbrev pub handed : Counts → List ℕ → ℕ → ℕ → List ℕ → List ℕ → List ℕ → List StepRecord → Inputs
+handed c table kind limit order store scratch log =
     record {
       counts = c;
       table = table;
@@ -28,8 +34,7 @@ handed c table kind limit order store scratch gates terms =
       order = order;
       store = store;
       scratch = scratch;
-      gates = gates;
-      terms = terms;
+      log = log;
     }
 
 -- a sound block of a known kind, a limit that is taken, and room for its terms
@@ -42,25 +47,53 @@ pub record Block (c : Counts) (table : List ℕ) (kind limit : ℕ) (store scrat
   pub scratch-room : limit * term-width c ≤ length scratch
 
 -- what the checks leave: such a block, an order of gates, and a log that is long enough
-pub record Passed (c : Counts) (table : List ℕ) (kind limit : ℕ) (order store scratch gates terms : List ℕ) : Type 0 where
+pub record Passed (c : Counts) (table : List ℕ) (kind limit : ℕ) (order store scratch : List ℕ) (log : ℕ) : Type 0 where
   pub block : Block c table kind limit store scratch
   pub short : length order ≤ most-steps
   pub gates-only : every (is-gate c) order ≡ true
-  pub gates-room : length order ≤ length gates
-  pub terms-room : length order ≤ length terms
+  pub log-room : length order ≤ log
 
 -- the start p is in the store if it has room, and scratch is zeros
 pub record Begun (c : Counts) (limit : ℕ) (p : Polynomial) (store scratch : List ℕ) (r : ℕ) (store′ scratch′ : List ℕ) : Type 0 where
   pub written : Started p (set-width c) limit (length store) r store′
   pub scratch-words : scratch′ ≡ replicate (length scratch) 0
 
+-- what comes before the run: the first refusal, and then all as it was; or the start, and a run where it has room
+pub record SetOut (c : Counts) (table : List ℕ) (kind limit : ℕ) (order : List ℕ) (log : ℕ) (store scratch : List ℕ) (r : Outset) (store′ scratch′ : List ℕ) : Type 0 where
+  pub refused : r .number ≡ first (judge-checks c table kind limit order (length store) (length scratch) log)
+  pub still : (r .number ≡ 0 → ⊥) → (r .begun ≡ false) × (store′ ≡ store) × (scratch′ ≡ scratch)
+  pub started : r .number ≡ 0 → Begun c limit (start (kind-of kind) c table) store scratch (r .held) store′ scratch′ × (r .begun ≡ leb (r .held) limit)
+
+-- what is said where no run begins
+unfoldable pub stop : ℕ → Says
+stop zero = answers 2 (0 ∷ 0 ∷ [])
+stop (suc k) = refuses (suc k)
+
+-- what the answer after a run asks
+pub record Closing (c : Counts) (table : List ℕ) (kind : ℕ) (ran : Ran) (store : List ℕ) : Type 0 where
+  pub short : ran .steps ≤ most-steps
+  pub ending : Ending c table kind (ran .terms) store
+
+-- and what it says: R at the step without room, else by the last polynomial
+unfoldable pub last : Counts → List ℕ → ℕ → Ran → List ℕ → Says
+last c table kind ran store =
+    cond (ran .fits) (ended (kind-of kind) c table (ran .steps) (decoded (set-width c) (ran .terms) store)) (answers 2 ((ran .steps + 1) ∷ ran .terms ∷ []))
+
 -- the outcome: the verdict, the polynomial held, and the log
-pub record Decided (c : Counts) (table : List ℕ) (kind limit : ℕ) (order store scratch gates terms : List ℕ)
-    (r : Answer) (store′ scratch′ gates′ terms′ : List ℕ) : Type 0 where
+pub record Decided (c : Counts) (table : List ℕ) (kind limit : ℕ) (order store scratch : List ℕ) (log : List StepRecord)
+    (r : Answer) (store′ scratch′ : List ℕ) (log′ : List StepRecord) : Type 0 where
   pub said : says r ≡ verdict (kind-of kind) c table limit order
   pub store-words :
       store′ ≡ padded (length store) (polynomial-words (set-width c) (held limit (run (kind-of kind) c table order)))
   pub scratch-words : scratch′ ≡ replicate (length scratch) 0
-  pub gate-records : gates′ ≡ over (completed limit (run (kind-of kind) c table order)) order gates
-  pub term-records :
-      terms′ ≡ over (completed limit (run (kind-of kind) c table order)) (map length (drop 1 (run (kind-of kind) c table order))) terms
+  pub log-records : log′ ≡ over (completed limit (run (kind-of kind) c table order)) (records order (run (kind-of kind) c table order)) log
+
+-- a log for the most variables of the desk program, with nothing in it
+abbrev pub blank-log : List StepRecord
+blank-log = replicate 127 (record { gate = 0; terms = 0 })
+
+-- the permitted outcome of the judge, but for the log
+pub record Unlogged (x : Inputs) (r : Answer) (store scratch : List ℕ) : Type 0 where
+  pub said : says r ≡ judging x
+  pub store-words : store ≡ store-after x
+  pub scratch-words : scratch ≡ scratch-after x

@@ -1,14 +1,15 @@
 -- A run over an order in lent words: what it asks, what one turn of it leaves, and what is left at its end.
 use mathlib.Core.Path.{_≡_}
 use mathlib.Core.Bool.{cond}
-use mathlib.Core.List.{List, map}
-use Prim.Native.Nat.{ℕ, _+_, _*_, _^_, _≤_}
+use mathlib.Core.List.{List}
+use Prim.Native.Nat.{ℕ, _+_, _*_, _^_, _<_, _≤_}
 use lib.Dec.{leb, ltb}
-use lib.ListN.{length, drop, replicate}
-use Rattle.rules.specs.Judging.{set-width, term-width, roomy, held, completed, polynomial-words, padded, over}
+use lib.ListN.{length, replicate}
+use Rattle.rules.specs.Judging.{set-width, term-width, roomy, held, completed, polynomial-words, padded, over, records}
 use Rattle.rules.specs.Limits.{most-terms}
 use Rattle.rules.specs.Polynomial.{Polynomial, Below, Coefficients}
 use Rattle.rules.specs.declared.counts.Counts.{Counts}
+use Rattle.rules.specs.declared.answers.StepRecord.{StepRecord}
 use Rattle.netlist.specs.Taken.{Sound}
 use Rattle.judge.specs.declared.turn.Turn.{Turn}
 use Rattle.judge.specs.declared.run.Ran.{Ran}
@@ -36,8 +37,8 @@ pub record Turned (c : Counts) (limit count v : ℕ) (q : Polynomial) (store scr
   pub cleared : scratch′ ≡ replicate (length scratch) 0
 
 -- what a run through the polynomials leaves, by the rules: whether all had room, the steps completed, the polynomial held, the log
-pub record Finished (c : Counts) (limit : ℕ) (order : List ℕ) (polynomials : List Polynomial) (store scratch gates terms : List ℕ)
-    (r : Ran) (store′ scratch′ gates′ terms′ : List ℕ) : Type 0 where
+pub record Finished (c : Counts) (limit : ℕ) (order : List ℕ) (polynomials : List Polynomial) (store scratch : List ℕ) (log : List StepRecord)
+    (r : Ran) (store′ scratch′ : List ℕ) (log′ : List StepRecord) : Type 0 where
   pub fits : r .fits ≡ ltb (length order) (roomy limit polynomials)
   pub steps : r .steps ≡ completed limit polynomials
   pub counted : r .terms ≡ length (held limit polynomials)
@@ -45,5 +46,4 @@ pub record Finished (c : Counts) (limit : ℕ) (order : List ℕ) (polynomials :
   pub falls : Below (2 ^ (c .m + 1)) (held limit polynomials)
   pub store-words : store′ ≡ padded (length store) (polynomial-words (set-width c) (held limit polynomials))
   pub scratch-words : scratch′ ≡ replicate (length scratch) 0
-  pub gate-records : gates′ ≡ over (completed limit polynomials) order gates
-  pub term-records : terms′ ≡ over (completed limit polynomials) (map length (drop 1 polynomials)) terms
+  pub log-records : log′ ≡ over (completed limit polynomials) (records order polynomials) log

@@ -17,12 +17,11 @@ ghost use Rattle.rules.specs.Says.{first};
 ghost use Rattle.rules.specs.Judging.{is-gate, judge-checks, lent-short, kind-wrong};
 ghost use Rattle.judge.specs.Checking.{block-checks, run-checks};
 
-// The lengths of the lent buffers: store, scratch and the two slices of the log.
+// The lengths of the lent buffers.
 pub struct Lent {
     pub store: usize,
     pub scratch: usize,
-    pub gates: usize,
-    pub terms: usize,
+    pub log: usize,
 }
 
 // Whether the kind is unknown, or O is not l.
@@ -52,13 +51,10 @@ fn names_gates(c: Counts, order: &[u32]) -> bool
 // Whether store, scratch or log is too short for so many terms and steps.
 fn lent_short(c: Counts, limit: usize, steps: usize, lent: Lent) -> bool
     requires { ⌜ (counts-right c ≡ true) × (limit ≤ most-terms) ⌝ }
-    ensures { λ r. ⌜ r ≡ lent-short c limit steps (lent .store) (lent .scratch) (lent .gates) (lent .terms) ⌝ }
+    ensures { λ r. ⌜ r ≡ lent-short c limit steps (lent .store) (lent .scratch) (lent .log) ⌝ }
 {
     let width = (c.m / 64 + 1) as usize + 1;
-    (lent.store < limit * width)
-        | (lent.scratch < 4 * limit * width)
-        | (lent.gates < steps)
-        | (lent.terms < steps)
+    (lent.store < limit * width) | (lent.scratch < 4 * limit * width) | (lent.log < steps)
 }
 
 // The number of the first refusal of counts, table and kind, or 0.
@@ -102,8 +98,7 @@ fn run_refused(c: Counts, limit: u64, order: &[u32], lent: Lent) -> u32
 
 // The number of the first refusal, or 0.
 pub fn refused(c: Counts, table: &[u32], kind: u32, limit: u64, order: &[u32], lent: Lent) -> u32
-    ensures { λ r. ⌜ r ≡ first (judge-checks c (now (table .entry)) kind limit (now (order .entry))
-        (lent .store) (lent .scratch) (lent .gates) (lent .terms)) ⌝ }
+    ensures { λ r. ⌜ r ≡ first (judge-checks c (now (table .entry)) kind limit (now (order .entry)) (lent .store) (lent .scratch) (lent .log)) ⌝ }
 {
     let number = block_refused(c, table, kind);
     if number != 0 {

@@ -1,14 +1,18 @@
 // The judge: its checks, the run over an order, the log and the answer.
 pub mod checks; // checks.rt: the refusals in the order of checks
-pub mod deciding; // deciding.rt: start, run and answer, once nothing is refused
+pub mod deciding; // deciding.rt: what comes before the run, and after it
 pub mod ending; // ending.rt: the answer by the last polynomial
+pub mod log; // log.rt: one record of the log
 pub mod run; // run.rt: the steps of an order, and the log
 pub mod turn; // turn.rt: one step
+pub mod unlogged; // unlogged.rt: the judge with a log of its own
 
-use crate::checks::Lent;
-use crate::checks::refused;
-use crate::deciding::decide;
+use crate::deciding::closed;
+use crate::deciding::set_out;
+use crate::deciding::stopped;
+use crate::run::run;
 use rules::answers::Answer;
+use rules::answers::StepRecord;
 use rules::counts::Counts;
 ghost use Rattle.rules.specs.Judging.{Judged};
 ghost use Rattle.judge.specs.Deciding.{handed};
@@ -23,32 +27,23 @@ pub fn judge(
     order: &[u32],
     store: &mut [u64],
     scratch: &mut [u64],
-    gates: &mut [u32],
-    terms: &mut [u32],
+    log: &mut [StepRecord],
 ) -> Answer
-    ensures { λ r. ⌜ Judged (handed c (now (table .entry)) kind limit (now (order .entry))
-        (now (store .entry)) (now (scratch .entry)) (now (gates .entry)) (now (terms .entry)))
-        r (now (store .exit)) (now (scratch .exit)) (now (gates .exit)) (now (terms .exit)) ⌝ }
+    ensures { λ r. ⌜ Judged (handed c (now (table .entry)) kind limit (now (order .entry)) (now (store .entry)) (now (scratch .entry)) (now (log .entry))) r (now (store .exit)) (now (scratch .exit)) (now (log .exit)) ⌝ }
 {
-    let lent = Lent {
-        store: store.len(),
-        scratch: scratch.len(),
-        gates: gates.len(),
-        terms: terms.len(),
-    };
-    let number = refused(c, table, kind, limit, order, lent);
-    if number != 0 {
-        return Answer::Refused(number);
+    let outset = set_out(c, table, kind, limit, order, log.len(), store, scratch);
+    if !outset.begun {
+        return stopped(outset.number);
     }
-    decide(
+    let ran = run(
         c,
         table,
-        kind,
         limit as usize,
         order,
+        outset.held,
         store,
         scratch,
-        gates,
-        terms,
-    )
+        log,
+    );
+    closed(c, table, kind, ran, store)
 }

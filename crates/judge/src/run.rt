@@ -1,5 +1,7 @@
 // The steps of an order, one after the other, and the log of those completed.
+use crate::log::put_record;
 use crate::turn::take_turn;
+use rules::answers::StepRecord;
 use rules::counts::Counts;
 ghost use mathlib.Core.Path.{_≡_};
 ghost use mathlib.Core.Bool.{true};
@@ -27,20 +29,16 @@ pub fn run(
     held: usize,
     store: &mut [u64],
     scratch: &mut [u64],
-    gates: &mut [u32],
-    terms: &mut [u32],
+    log: &mut [StepRecord],
 ) -> Ran
-    requires { ⌜ Running c (now table) limit held (decoded (set-width c) held (now store)) (now store) (now scratch)
-        × (every (is-gate c) (now order) ≡ true) × (length (now order) ≤ length (now gates)) × (length (now order) ≤ length (now terms)) ⌝ }
-    ensures { λ r. ⌜ Finished c limit (now (order .entry))
-        (trail (2 ^ c .o) c (now (table .entry)) (decoded (set-width c) held (now (store .entry))) (now (order .entry)))
-        (now (store .entry)) (now (scratch .entry)) (now (gates .entry)) (now (terms .entry))
-        r (now (store .exit)) (now (scratch .exit)) (now (gates .exit)) (now (terms .exit)) ⌝ }
+    requires { ⌜ Running c (now table) limit held (decoded (set-width c) held (now store)) (now store) (now scratch) × (every (is-gate c) (now order) ≡ true) × (length (now order) ≤ length (now log)) ⌝ }
+    ensures { λ r. ⌜ Finished c limit (now (order .entry)) (trail (2 ^ c .o) c (now (table .entry)) (decoded (set-width c) held (now (store .entry))) (now (order .entry))) (now (store .entry)) (now (scratch .entry)) (now (log .entry)) r (now (store .exit)) (now (scratch .exit)) (now (log .exit)) ⌝ }
 {
     let mut left = held;
-    let mut k = 0;
+    let mut k: usize = 0;
     while k < order.len() {
-        let t = take_turn(c, table, order[k], limit, left, store, scratch);
+        let v = order[k];
+        let t = take_turn(c, table, v, limit, left, store, scratch);
         if !t.fits {
             return Ran {
                 fits: false,
@@ -48,8 +46,7 @@ pub fn run(
                 terms: left,
             };
         }
-        gates[k] = t.gate;
-        terms[k] = t.terms as u32;
+        put_record(log, k, t.gate, t.terms as u32);
         left = t.terms;
         k += 1;
     }

@@ -13,6 +13,7 @@ use Rattle.rules.specs.Desk.{Lined}
 use Rattle.rules.specs.declared.answers.Answer.{Answer}
 use Rattle.rules.specs.declared.answers.Answer.the-variants.{Equal, Differs, OutOfRoom, Unfinished, Refused as RefusedAnswer}
 use Rattle.rules.specs.declared.answers.Line.{Line}
+use Rattle.rules.specs.declared.answers.StepRecord.{StepRecord}
 use Rattle.rules.specs.declared.answers.Text.{Text}
 use Rattle.rules.specs.declared.answers.Text.the-variants.{Read, Refused as RefusedText}
 use Rattle.rules.specs.declared.answers.Word.{Word}
@@ -98,14 +99,13 @@ read-one {r = r} {q = q} x y =
     (text-known r q (x .said ∙ sym (y .said)), x .table-words ∙ sym (y .table-words))
 
 -- one outcome of judging
-pub judged-one : {x : Inputs} {r q : Answer} {s w g t s′ w′ g′ t′ : List ℕ} → Judged x r s w g t → Judged x q s′ w′ g′ t′
-    → (r ≡ q) × (s ≡ s′) × (w ≡ w′) × (g ≡ g′) × (t ≡ t′)
+pub judged-one : {x : Inputs} {r q : Answer} {s w s′ w′ : List ℕ} {g g′ : List StepRecord} → Judged x r s w g → Judged x q s′ w′ g′
+    → (r ≡ q) × (s ≡ s′) × (w ≡ w′) × (g ≡ g′)
 judged-one {r = r} {q = q} a b = (
   answer-known r q (a .said ∙ sym (b .said)),
   a .store-words ∙ sym (b .store-words),
   a .scratch-words ∙ sym (b .scratch-words),
-  a .gate-records ∙ sym (b .gate-records),
-  a .term-records ∙ sym (b .term-records),
+  a .log-records ∙ sym (b .log-records),
 )
 
 -- one line of the desk

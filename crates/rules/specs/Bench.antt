@@ -1,7 +1,7 @@
 -- The bench sheet of document 01, P1 to P11: one table of rows under one claim.
 use mathlib.Core.Path.{_≡_, refl}
 use mathlib.Core.Bool.{Bool, true, false, xor, _&&_}
-use mathlib.Core.List.{List, [], _∷_, _++_}
+use mathlib.Core.List.{List, [], _∷_, _++_, map}
 use Prim.Native.Nat.{ℕ, suc, _+_, _-_, _*_, _/_}
 use Prim.Native.Char.{code}
 use Prim.Native.String.{String, [] as empty, _∷_ as _then_}
@@ -16,9 +16,10 @@ use Rattle.rules.specs.Values.{width, bit, turned, literal-value, input-
 use Rattle.rules.specs.Product.{kind-of, kind-unknown, outputs-of, operand, negative, size, modulo, product}
 use Rattle.rules.specs.Polynomial.{keep, place, insert, gather, with-variable, times-variable, times-literal}
 use Rattle.rules.specs.Steps.{modulus, below-zero, product-term, start-terms, start, where-held, replaced, all-replaced, step, trail, run}
-use Rattle.rules.specs.Judging.{Inputs, set-width, term-width, kind-wrong, is-gate, order-wrong, lent-short, judge-checks, roomy, held, completed, inputs-only, sooner, soonest, pair-a, pair-b, differs, ended, verdict, term-words, polynomial-words, padded, over, kept-or, checks, refusal, polynomials, judging, store-after, scratch-after, gates-after, terms-after}
+use Rattle.rules.specs.Judging.{Inputs, set-width, term-width, kind-wrong, is-gate, order-wrong, lent-short, judge-checks, roomy, held, completed, inputs-only, sooner, soonest, pair-a, pair-b, differs, ended, verdict, term-words, polynomial-words, padded, records, over, kept-or, checks, refusal, polynomials, judging, store-after, scratch-after, log-after}
 use Rattle.rules.specs.Text.{digits, decimal}
 use Rattle.rules.specs.Reading.{Netlist, netlist, refused, digit, leading-digits, value-from, well-written, behind, with-numbers, and-then, field, fields, word, header-line, tested, input-line, output-line, gate-line, lines, end-read, gates-read, outputs-read, inputs-read, counts-read, counts-of, header-read, reading}
+use Rattle.rules.specs.declared.answers.StepRecord.{StepRecord}
 use Rattle.rules.specs.declared.counts.Counts.{Counts}
 use Rattle.rules.specs.Desk.{falling, desk-checks, desk-judging, desk-sized, desk-read, kind-named, desk-kind, desk-lines, desk-long, desk-says, letter, spaced, printed, desk-line}
 
@@ -33,6 +34,11 @@ same [] [] = true
 same [] (y ∷ ys) = false
 same (x ∷ xs) [] = false
 same (x ∷ xs) (y ∷ ys) = eqb x y && same xs ys
+
+-- the records have these gates and these terms
+unfoldable pub same-records : List ℕ → List ℕ → List StepRecord → Bool
+same-records gates terms log =
+    same gates (map (λ (r : StepRecord). r .gate) log) && same terms (map (λ (r : StepRecord). r .terms) log)
 
 -- the same answer with the same values, or the same refusal
 unfoldable pub same-says : Says → Says → Bool
@@ -52,11 +58,11 @@ pub record Row : Type 0 where
   pub says : Says
   -- the words of the store's terms
   pub store : List ℕ
-  -- the log's gates and terms, one entry for each step completed
+  -- the gates and terms of the log's records, one for each step completed
   pub gates : List ℕ
   pub terms : List ℕ
 
--- what the buffers that a row lends hold in every word; each has one word more than is needed
+-- what the buffers that a row lends hold in every word; each has one word or record more than is needed
 abbrev pub lent : ℕ
 lent = 77
 
@@ -71,12 +77,11 @@ handed row c words =
       order = row .order;
       store = replicate (suc (row .limit * (c .m / 64 + 2))) lent;
       scratch = replicate (suc (4 * row .limit * (c .m / 64 + 2))) lent;
-      gates = replicate (suc (length (row .order))) lent;
-      terms = replicate (suc (length (row .order))) lent;
+      log = replicate (suc (length (row .order))) (record { gate = lent; terms = lent });
     }
 
--- a buffer of that length at exit: the row's words, then zeros or what was lent
-unfoldable pub filled : List ℕ → ℕ → List ℕ → List ℕ
+-- the words of a buffer of that length at exit: the row's, then zeros or what was lent
+unfoldable pub filled : {A : Type 0} → List ℕ → ℕ → List A → List ℕ
 filled words rest buffer = words ++ replicate (length buffer - length words) rest
 
 -- every lent word at exit is the row's; after a refusal each is as it was lent
@@ -84,14 +89,12 @@ unfoldable pub words-right : Row → Inputs → Says → Bool
 words-right row x (answers k numbers) =
     same (filled (row .store) 0 (x .store)) (store-after x)
     && same (filled [] 0 (x .scratch)) (scratch-after x)
-    && same (filled (row .gates) lent (x .gates)) (gates-after x)
-    && same (filled (row .terms) lent (x .terms)) (terms-after x)
+    && same-records (filled (row .gates) lent (x .log)) (filled (row .terms) lent (x .log)) (log-after x)
     && eqb (row .begins) (length (start (kind-of (x .kind)) (x .counts) (x .table)))
 words-right row x (refuses k) =
     same (filled [] lent (x .store)) (store-after x)
     && same (filled [] lent (x .scratch)) (scratch-after x)
-    && same (filled [] lent (x .gates)) (gates-after x)
-    && same (filled [] lent (x .terms)) (terms-after x)
+    && same-records (filled [] lent (x .log)) (filled [] lent (x .log)) (log-after x)
 
 -- the judgement of what is handed over is the row's
 unfoldable pub judged-right : Row → Inputs → Bool
@@ -104,15 +107,15 @@ read-right row (refused k) = same-says (row .says) (refuses k)
 
 -- reading and then judging give what the row expects; all that they are made of computes here
 unfoldable pub right : Row → Bool
-unfolding same same-says handed filled words-right judged-right read-right each sum joined listed every first refuse-or
+unfolding same same-records same-says handed filled words-right judged-right read-right each sum joined listed every first refuse-or
     terms-wrong steps-wrong counts-right needed variable inverted gate output rhs0 rhs1 output-sound gate-sound table-sound
     counts-wrong table-short table-unsound width bit turned literal-value input-values gate-value values-to values shown
     kind-of kind-unknown outputs-of operand negative size modulo product xor ones onesIn
     keep place insert gather with-variable times-variable times-literal
     modulus below-zero product-term start-terms start where-held replaced all-replaced step trail run
     set-width term-width kind-wrong is-gate order-wrong lent-short judge-checks roomy held completed inputs-only sooner
-    soonest pair-a pair-b differs ended verdict term-words polynomial-words padded over kept-or checks refusal polynomials judging
-    store-after scratch-after gates-after terms-after
+    soonest pair-a pair-b differs ended verdict term-words polynomial-words padded records over kept-or checks refusal polynomials judging
+    store-after scratch-after log-after
     digit leading-digits value-from well-written behind with-numbers and-then field fields word header-line tested input-line
     output-line gate-line lines end-read gates-read outputs-read inputs-read counts-read counts-of header-read reading
 right row = read-right row (reading 2106 (row .text))

@@ -39,7 +39,6 @@ desk-checks kind c words =
     (desk-terms * term-width c)
     (4 * desk-terms * term-width c)
     (length (falling c))
-    (length (falling c))
 
 -- judging with them
 unfoldable pub desk-judging : ℕ → Counts → List ℕ → Says

@@ -1,7 +1,7 @@
 -- What the judge answers, and every lent word when it returns.
 use mathlib.Core.Path.{_≡_}
 use mathlib.Core.Bool.{Bool, not, cond, _||_, _&&_}
-use mathlib.Core.List.{List, [], _∷_, _++_, map}
+use mathlib.Core.List.{List, [], _∷_, _++_}
 use Prim.Native.Nat.{ℕ, zero, suc, pred, _+_, _-_, _*_, _/_, _%_, _^_}
 use lib.Count.{ones}
 use lib.Dec.{leb, ltb, eqb}
@@ -15,6 +15,7 @@ use Rattle.rules.specs.Polynomial.{Term, Polynomial}
 use Rattle.rules.specs.Steps.{run}
 use Rattle.rules.specs.Says.{Says, answers, first, refuse-or, says}
 use Rattle.rules.specs.declared.answers.Answer.{Answer}
+use Rattle.rules.specs.declared.answers.StepRecord.{StepRecord}
 use Rattle.rules.specs.declared.counts.Counts.{Counts}
 
 -- W, the words of a set
@@ -38,20 +39,20 @@ unfoldable pub order-wrong : Counts → List ℕ → Bool
 order-wrong c order = steps-wrong (length order) || not (every (is-gate c) order)
 
 -- store, scratch or log too short (12), from their lengths
-unfoldable pub lent-short : Counts → ℕ → ℕ → ℕ → ℕ → ℕ → ℕ → Bool
-lent-short c limit steps store scratch gates terms =
-    ltb store (limit * term-width c) || ltb scratch (4 * limit * term-width c) || ltb gates steps || ltb terms steps
+unfoldable pub lent-short : Counts → ℕ → ℕ → ℕ → ℕ → ℕ → Bool
+lent-short c limit steps store scratch log =
+    ltb store (limit * term-width c) || ltb scratch (4 * limit * term-width c) || ltb log steps
 
 -- the checks of judging in their order; of the lent buffers they ask only how long they are
-unfoldable pub judge-checks : Counts → List ℕ → ℕ → ℕ → List ℕ → ℕ → ℕ → ℕ → ℕ → List (ℕ × Bool)
-judge-checks c table kind limit order store scratch gates terms =
+unfoldable pub judge-checks : Counts → List ℕ → ℕ → ℕ → List ℕ → ℕ → ℕ → ℕ → List (ℕ × Bool)
+judge-checks c table kind limit order store scratch log =
     (2, counts-wrong c)
     ∷ (3, table-short c (length table))
     ∷ (8, table-unsound c table)
     ∷ (9, kind-wrong c kind)
     ∷ (10, terms-wrong limit)
     ∷ (11, order-wrong c order)
-    ∷ (12, lent-short c limit (length order) store scratch gates terms)
+    ∷ (12, lent-short c limit (length order) store scratch log)
     ∷ []
 
 -- how many polynomials of the run, from its first, have at most T terms before one has more
@@ -124,12 +125,19 @@ polynomial-words w (t ∷ p) = term-words w t ++ polynomial-words w p
 unfoldable pub padded : ℕ → List ℕ → List ℕ
 padded lent words = words ++ replicate (lent - length words) 0
 
+-- for each step of the order its gate, and the number of terms of the polynomial after it; the first polynomial is that of step 0
+unfoldable pub records : List ℕ → List Polynomial → List StepRecord
+records [] polynomials = []
+records (v ∷ order) [] = []
+records (v ∷ order) (p ∷ []) = []
+records (v ∷ order) (p ∷ q ∷ later) = record { gate = v; terms = length q } ∷ records order (q ∷ later)
+
 -- the first entries, then what stood behind them
-unfoldable pub over : ℕ → List ℕ → List ℕ → List ℕ
+unfoldable pub over : {A : Type 0} → ℕ → List A → List A → List A
 over count new old = take count new ++ drop count old
 
 -- a buffer at exit: as it was where there is a refusal
-unfoldable pub kept-or : ℕ → List ℕ → List ℕ → List ℕ
+unfoldable pub kept-or : {A : Type 0} → ℕ → List A → List A → List A
 kept-or zero old new = new
 kept-or (suc k) old new = old
 
@@ -142,8 +150,7 @@ pub record Inputs : Type 0 where
   pub order : List ℕ
   pub store : List ℕ
   pub scratch : List ℕ
-  pub gates : List ℕ
-  pub terms : List ℕ
+  pub log : List StepRecord
 
 -- the checks of what is handed in
 unfoldable pub checks : Inputs → List (ℕ × Bool)
@@ -156,8 +163,7 @@ checks x =
     (x .order)
     (length (x .store))
     (length (x .scratch))
-    (length (x .gates))
-    (length (x .terms))
+    (length (x .log))
 
 -- the refusal of what is handed in, or 0
 unfoldable pub refusal : Inputs → ℕ
@@ -183,21 +189,15 @@ store-after x =
 unfoldable pub scratch-after : Inputs → List ℕ
 scratch-after x = kept-or (refusal x) (x .scratch) (replicate (length (x .scratch)) 0)
 
--- the log at exit: for each step completed its gate, and the terms after it; other records as they were
-unfoldable pub gates-after : Inputs → List ℕ
-gates-after x =
-    let new = over (completed (x .limit) (polynomials x)) (x .order) (x .gates) in
-    kept-or (refusal x) (x .gates) new
-
-unfoldable pub terms-after : Inputs → List ℕ
-terms-after x =
-    let new = over (completed (x .limit) (polynomials x)) (map length (drop 1 (polynomials x))) (x .terms) in
-    kept-or (refusal x) (x .terms) new
+-- the log at exit: a record for each step completed, and its other records as they were
+unfoldable pub log-after : Inputs → List StepRecord
+log-after x =
+    let new = over (completed (x .limit) (polynomials x)) (records (x .order) (polynomials x)) (x .log) in
+    kept-or (refusal x) (x .log) new
 
 -- the permitted outcome of the judge: its answer and every lent buffer at exit
-pub record Judged (x : Inputs) (r : Answer) (store scratch gates terms : List ℕ) : Type 0 where
+pub record Judged (x : Inputs) (r : Answer) (store scratch : List ℕ) (log : List StepRecord) : Type 0 where
   pub said : says r ≡ judging x
   pub store-words : store ≡ store-after x
   pub scratch-words : scratch ≡ scratch-after x
-  pub gate-records : gates ≡ gates-after x
-  pub term-records : terms ≡ terms-after x
+  pub log-records : log ≡ log-after x

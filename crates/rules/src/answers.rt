@@ -38,6 +38,13 @@ pub enum Answer {
     Refused(u32),
 }
 
+// In the log of the judge, for a step completed: its gate, and the number of terms after it.
+#[repr(C)]
+pub struct StepRecord {
+    pub gate: u32,
+    pub terms: u32,
+}
+
 // Of the desk program: the bytes of its line, then zeros, and how many bytes the line has.
 pub struct Line {
     pub bytes: [u8; 130],

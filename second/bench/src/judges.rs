@@ -1,6 +1,7 @@
 //! Three judges of one question: the proved library, the second program, and the plain C judge.
 
-use second::{Answer, Counts};
+use compare::library;
+use second::{Answer, Counts, Step};
 
 /// What every judge is asked.
 #[derive(Clone, Copy)]
@@ -32,23 +33,20 @@ impl std::fmt::Display for Verdict {
     }
 }
 
-/// The words lent to a judge, as long as document 01 asks. A host lends the same words again and again.
+/// The words and records lent to a judge, as many as document 01 asks. A host lends the same ones again and again.
 pub struct Lent {
     pub store: Vec<u64>,
     pub scratch: Vec<u64>,
-    pub gates: Vec<u32>,
-    pub terms: Vec<u32>,
+    pub log: Vec<Step>,
 }
 
 impl Lent {
     pub fn to(question: &Question) -> Lent {
         let words = question.limit as usize * question.counts.term_words();
-        let steps = question.order.len();
         Lent {
             store: vec![0; words],
             scratch: vec![0; 4 * words],
-            gates: vec![0; steps],
-            terms: vec![0; steps],
+            log: vec![Step::default(); question.order.len()],
         }
     }
 }
@@ -76,30 +74,6 @@ impl LentToHash {
 }
 
 extern "C" {
-    fn hraskell_judge(
-        m: u32,
-        i: u32,
-        l: u32,
-        o: u32,
-        a: u32,
-        table: *const u32,
-        table_words: usize,
-        kind: u32,
-        limit: u64,
-        order: *const u32,
-        order_words: usize,
-        store: *mut u64,
-        store_words: usize,
-        scratch: *mut u64,
-        scratch_words: usize,
-        gates: *mut u32,
-        gates_words: usize,
-        terms: *mut u32,
-        terms_words: usize,
-        answer: *mut u64,
-        answer_words: usize,
-    ) -> u32;
-
     fn hash_judge_term_words(m: u32, limit: u64) -> usize;
 
     fn hash_judge_slots(limit: u64) -> usize;
@@ -119,27 +93,27 @@ extern "C" {
     ) -> u8;
 }
 
-#[rustfmt::skip]
 pub fn by_library(question: &Question, lent: &mut Lent) -> Verdict {
-    let Counts { m, i, l, o, a } = question.counts;
-    let (table, order) = (question.table, question.order);
     let mut answer = [0; 6];
-    // SAFETY: slices are never null, and those lent for writing overlap nothing.
-    let number = unsafe {
-        hraskell_judge(
-            m, i, l, o, a,
-            table.as_ptr(), table.len(),
-            question.kind, question.limit,
-            order.as_ptr(), order.len(),
-            lent.store.as_mut_ptr(), lent.store.len(),
-            lent.scratch.as_mut_ptr(), lent.scratch.len(),
-            lent.gates.as_mut_ptr(), lent.gates.len(),
-            lent.terms.as_mut_ptr(), lent.terms.len(),
-            answer.as_mut_ptr(), answer.len(),
-        )
+    let asked = compare::Question {
+        counts: question.counts,
+        table: question.table,
+        kind: question.kind,
+        limit: question.limit,
+        order: question.order,
+        lent: second::Lent {
+            store: &mut lent.store,
+            scratch: &mut lent.scratch,
+            log: &mut lent.log,
+        },
     };
+    let number = library::judge(asked, &mut answer);
     match ['E', 'D', 'R', 'U'].get(number as usize) {
-        Some(&letter) => Verdict { letter, step: answer[0], terms: answer[1] },
+        Some(&letter) => Verdict {
+            letter,
+            step: answer[0],
+            terms: answer[1],
+        },
         None => refused(number.saturating_sub(100)),
     }
 }
@@ -153,8 +127,7 @@ pub fn by_second(question: &Question, lent: &mut Lent) -> Verdict {
         question.order,
         &mut lent.store,
         &mut lent.scratch,
-        &mut lent.gates,
-        &mut lent.terms,
+        &mut lent.log,
     );
     let (letter, step, terms) = match answer {
         Answer::Equal { steps, terms } => ('E', steps, terms),

@@ -1,34 +1,7 @@
-//! The exported functions of the proved program that every library has: reading and evaluating.
-//!
-//! The judge is declared in `judges`, so that a library without it can still
-//! be timed in these.
+//! Reading and evaluating by the proved library, with results like those of the second program.
 
+use compare::library;
 use second::Counts;
-
-extern "C" {
-    fn hraskell_read(
-        text: *const u8,
-        text_bytes: usize,
-        table: *mut u32,
-        table_words: usize,
-        counts: *mut u32,
-        counts_words: usize,
-    ) -> u32;
-
-    fn hraskell_evaluate(
-        m: u32,
-        i: u32,
-        l: u32,
-        o: u32,
-        a: u32,
-        table: *const u32,
-        table_words: usize,
-        x: u64,
-        y: u64,
-        word: *mut u64,
-        word_words: usize,
-    ) -> u32;
-}
 
 /// A library's number, when it did not do what was asked.
 pub type Refusal = u32;
@@ -36,41 +9,15 @@ pub type Refusal = u32;
 /// The counts of a netlist text, and its table in the first words lent.
 pub fn read(text: &[u8], table: &mut [u32]) -> Result<Counts, Refusal> {
     let mut counts = [0; 5];
-    // SAFETY: slices are never null, and those lent for writing overlap nothing.
-    let number = unsafe {
-        hraskell_read(
-            text.as_ptr(),
-            text.len(),
-            table.as_mut_ptr(),
-            table.len(),
-            counts.as_mut_ptr(),
-            counts.len(),
-        )
-    };
+    let number = library::read(text, table, &mut counts);
     let [m, i, l, o, a] = counts;
     done(number, Counts { m, i, l, o, a })
 }
 
 /// The word the outputs show at one operand pair.
 pub fn evaluate(counts: Counts, table: &[u32], x: u64, y: u64) -> Result<u64, Refusal> {
-    let Counts { m, i, l, o, a } = counts;
     let mut word = [0];
-    // SAFETY: slices are never null, and the one lent for writing overlaps nothing.
-    let number = unsafe {
-        hraskell_evaluate(
-            m,
-            i,
-            l,
-            o,
-            a,
-            table.as_ptr(),
-            table.len(),
-            x,
-            y,
-            word.as_mut_ptr(),
-            word.len(),
-        )
-    };
+    let number = library::evaluate(counts, table, x, y, &mut word);
     done(number, word[0])
 }
 

@@ -11,6 +11,7 @@
 use crate::judges::{by_library, Lent, Question};
 use crate::timing::{met, Least};
 use second::netlists::Made;
+use second::Step;
 
 const LIMIT: u64 = 16_384;
 const REPEATS: u32 = 10;
@@ -101,8 +102,8 @@ fn step_microseconds(growth: &Growth, terms: u32) -> Option<f64> {
     for _ in 0..REPEATS {
         without.time(|| by_library(&short, &mut lent));
         let verdict = with.time(|| by_library(&long, &mut lent));
-        let log = &lent.terms[growth.building.len()..];
-        let has_size = |&after: &u32| after == terms || after == terms - 1;
+        let log = &lent.log[growth.building.len()..];
+        let has_size = |step: &Step| step.terms == terms || step.terms == terms - 1;
         if verdict.letter != 'U' || !log.iter().all(has_size) {
             println!("{terms} terms were to be held; the answer is {verdict}, the log {log:?}");
             return None;

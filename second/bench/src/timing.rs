@@ -21,7 +21,6 @@ impl Least {
         result
     }
 
-    #[cfg(feature = "judge")]
     pub fn milliseconds(self) -> f64 {
         1_000.0 * self.0.as_secs_f64()
     }

@@ -19,20 +19,6 @@ static void expect(const char *what, uint64_t got, uint64_t wanted)
     }
 }
 
-/* The first words are the wanted ones, and the others are all rest. */
-static void expect_numbers(const char *what, const uint32_t *got, size_t length,
-                           const uint32_t *wanted, size_t count, uint32_t rest)
-{
-    for (size_t at = 0; at < length; at++)
-        expect(what, got[at], at < count ? wanted[at] : rest);
-}
-
-static void mark_numbers(uint32_t *numbers, size_t length)
-{
-    for (size_t at = 0; at < length; at++)
-        numbers[at] = MARK;
-}
-
 static int verdict(const char *name)
 {
     printf("%s: %s\n", name, failures ? "FAILED" : "passed");

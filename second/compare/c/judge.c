@@ -5,7 +5,7 @@
 #define STORE_WORDS 256
 #define SCRATCH_WORDS 1024
 #define STEPS 10
-/* Words past each lent buffer that have to keep their mark. */
+/* Words past each lent buffer, and records past the log, that have to keep their mark. */
 #define GUARDS 2
 
 struct netlist {
@@ -30,12 +30,18 @@ static const uint32_t falling[] = {14, 13, 12, 11, 10, 9, 8, 7, 6, 5};
 
 static uint64_t store[STORE_WORDS + GUARDS], scratch[SCRATCH_WORDS + GUARDS];
 static uint64_t answer[HRASKELL_ANSWER_WORDS + GUARDS];
-static uint32_t gates[STEPS + GUARDS], terms[STEPS + GUARDS];
+static struct hraskell_step records[STEPS + GUARDS];
 
 static void mark_words(uint64_t *words, size_t length)
 {
     for (size_t at = 0; at < length; at++)
         words[at] = MARK;
+}
+
+static void mark_records(void)
+{
+    for (size_t at = 0; at < COUNT(records); at++)
+        records[at] = (struct hraskell_step){MARK, MARK};
 }
 
 /* The first words are the wanted ones, then rest up to the lent length, then marks. */
@@ -48,6 +54,16 @@ static void expect_words(const char *what, const uint64_t *got, size_t lent, con
         expect(what, got[at], at < lent ? rest : MARK);
 }
 
+/* The first records have the gates of the order, and the others are marks. */
+static void expect_records(const char *what, const uint32_t *order, size_t steps)
+{
+    for (size_t at = 0; at < COUNT(records); at++) {
+        expect(what, records[at].gate, at < steps ? order[at] : MARK);
+        if (at >= steps)
+            expect(what, records[at].terms, MARK);
+    }
+}
+
 /* Judges with T = 128 on fresh buffers of the least lengths, answer of the length given. */
 static uint32_t judge(const struct netlist *n, uint32_t kind, const uint32_t *order, size_t steps,
                       size_t answer_length)
@@ -55,23 +71,21 @@ static uint32_t judge(const struct netlist *n, uint32_t kind, const uint32_t *or
     mark_words(store, COUNT(store));
     mark_words(scratch, COUNT(scratch));
     mark_words(answer, COUNT(answer));
-    mark_numbers(gates, COUNT(gates));
-    mark_numbers(terms, COUNT(terms));
+    mark_records();
     return hraskell_judge(n->m, n->i, n->l, n->o, n->a, n->table, n->table_length, kind, 128, order,
-                          steps, store, STORE_WORDS, scratch, SCRATCH_WORDS, gates, steps, terms, steps,
-                          answer, answer_length);
+                          steps, store, STORE_WORDS, scratch, SCRATCH_WORDS, records, steps, answer,
+                          answer_length);
 }
 
-/* After a call that was taken: answer, store and the gates of the log. */
+/* After a call that was taken: answer, store, scratch, and in the log the gates and the last terms. */
 static void leaves(const char *what, const uint64_t *answered, size_t answered_length,
                    const uint64_t *stored, size_t stored_length, const uint32_t *order, size_t steps)
 {
     expect_words(what, answer, HRASKELL_ANSWER_WORDS, answered, answered_length, MARK);
     expect_words(what, store, STORE_WORDS, stored, stored_length, 0);
     expect_words(what, scratch, SCRATCH_WORDS, NULL, 0, 0);
-    expect_numbers(what, gates, COUNT(gates), order, steps, MARK);
-    expect(what, terms[steps - 1], answered[1]);
-    expect(what, terms[steps], MARK);
+    expect_records(what, order, steps);
+    expect(what, records[steps - 1].terms, answered[1]);
 }
 
 static void bench_sheet(void)
@@ -102,8 +116,7 @@ static void refuses(const char *what, const struct netlist *n, uint32_t kind, co
     expect_words(what, answer, HRASKELL_ANSWER_WORDS, NULL, 0, MARK);
     expect_words(what, store, STORE_WORDS, NULL, 0, MARK);
     expect_words(what, scratch, SCRATCH_WORDS, NULL, 0, MARK);
-    expect_numbers(what, gates, COUNT(gates), NULL, 0, MARK);
-    expect_numbers(what, terms, COUNT(terms), NULL, 0, MARK);
+    expect_records(what, NULL, 0);
 }
 
 static void refusals(void)
@@ -122,27 +135,27 @@ static void refusals(void)
     refuses("answer short and wrong counts", &wrong_sum, HRASKELL_PLAIN, one_step, 0, 112);
 }
 
-/* T outside its limits, and each lent buffer one word short. */
+/* T outside its limits, and each lent buffer one word or record short. */
 static void lengths(void)
 {
     static const struct {
         uint64_t limit;
-        size_t store, scratch, gates, terms;
+        size_t store, scratch, log;
         uint32_t number;
     } rows[] = {
-        {127, 256, 1024, 1, 1, 110},   {16385, 256, 1024, 1, 1, 110}, {129, 256, 1024, 1, 1, 112},
-        {128, 255, 1024, 1, 1, 112},   {128, 256, 1023, 1, 1, 112},   {128, 256, 1024, 0, 1, 112},
-        {128, 256, 1024, 1, 0, 112},   {128, 256, 1024, 1, 1, HRASKELL_EQUAL},
+        {127, 256, 1024, 1, 110}, {16385, 256, 1024, 1, 110}, {129, 256, 1024, 1, 112},
+        {128, 255, 1024, 1, 112}, {128, 256, 1023, 1, 112},   {128, 256, 1024, 0, 112},
+        {128, 256, 1024, 1, HRASKELL_EQUAL},
     };
     for (size_t at = 0; at < COUNT(rows); at++)
         expect("limit and lengths",
                hraskell_judge(3, 2, 0, 2, 1, p1_table, 4, HRASKELL_PLAIN, rows[at].limit, one_step, 1, store,
-                              rows[at].store, scratch, rows[at].scratch, gates, rows[at].gates, terms,
-                              rows[at].terms, answer, 6),
+                              rows[at].store, scratch, rows[at].scratch, records, rows[at].log, answer, 6),
                rows[at].number);
     expect("words of the store", HRASKELL_STORE_WORDS(3, 128), STORE_WORDS);
     expect("words of scratch", HRASKELL_SCRATCH_WORDS(3, 128), SCRATCH_WORDS);
     expect("words of a term, M 1,023", HRASKELL_TERM_WORDS(1023), 17);
+    expect("bytes of a record", sizeof(struct hraskell_step), 8);
 }
 
 int main(void)

@@ -11,6 +11,20 @@ static const uint32_t p9_table[] = {7, 0, 5, 3};
 static const uint32_t p10_table[] = {10, 22, 28, 24, 6,  2,  8,  2,  6,  4,  8,  4,
                                      14, 12, 15, 13, 21, 19, 18, 16, 19, 17, 27, 25};
 
+/* The first words are the wanted ones, and the others are all rest. */
+static void expect_numbers(const char *what, const uint32_t *got, size_t length,
+                           const uint32_t *wanted, size_t count, uint32_t rest)
+{
+    for (size_t at = 0; at < length; at++)
+        expect(what, got[at], at < count ? wanted[at] : rest);
+}
+
+static void mark_numbers(uint32_t *numbers, size_t length)
+{
+    for (size_t at = 0; at < length; at++)
+        numbers[at] = MARK;
+}
+
 /* Reads into buffers longer than lent; a refusal (counts is null) has to leave every word. */
 static void reads(const char *what, const char *text, size_t table_length, size_t counts_length,
                   uint32_t number, const uint32_t *counts, const uint32_t *table)

@@ -1,7 +1,8 @@
 //! The second program behind the exported functions' own rules: numbers in place of answers, words in place of values.
 
+use crate::Question;
 use second::rules::LENT_SHORT;
-use second::{evaluate_by, judge_by, read_by, Answer, Counts, Lent, Rules};
+use second::{evaluate_by, judge_by, read_by, Answer, Counts, Rules};
 
 /// Added to a number of refusal.
 const REFUSED: u32 = 100;
@@ -23,16 +24,6 @@ struct Boundary {
 pub struct Mirror {
     rules: Rules,
     boundary: Boundary,
-}
-
-/// A call of the judge, without the words for its answer.
-pub struct Question<'a> {
-    pub counts: Counts,
-    pub table: &'a [u32],
-    pub kind: u32,
-    pub limit: u64,
-    pub order: &'a [u32],
-    pub lent: Lent<'a>,
 }
 
 impl Mirror {

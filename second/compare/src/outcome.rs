@@ -1,9 +1,10 @@
 //! Lent buffers with guard words, what a call leaves in them, and the search for a case that tells two answerers apart.
 
-use second::cases::{marked_numbers, marked_words};
+use second::cases::{marked_numbers, marked_steps, marked_words};
+use second::Step;
 use std::fmt::Debug;
 
-/// Words past each buffer that no call may touch.
+/// Words past each buffer, or records past the log, that no call may touch.
 pub const GUARDS: usize = 8;
 
 /// A buffer with guard words past the part that is lent.
@@ -11,7 +12,7 @@ pub struct Guarded<T> {
     words: Vec<T>,
 }
 
-impl<T: Copy + Into<u64>> Guarded<T> {
+impl<T> Guarded<T> {
     pub fn lent(&self) -> &[T] {
         &self.words[..self.words.len() - GUARDS]
     }
@@ -20,7 +21,9 @@ impl<T: Copy + Into<u64>> Guarded<T> {
         let count = self.words.len() - GUARDS;
         &mut self.words[..count]
     }
+}
 
+impl<T: Copy + Into<u64>> Guarded<T> {
     /// Every word, the guard words too, under the buffer's name.
     pub fn named(&self, name: &'static str) -> Buffer {
         let words = self.words.iter().map(|&word| word.into()).collect();
@@ -54,6 +57,20 @@ impl Guarded<u64> {
     pub fn marked(count: usize) -> Guarded<u64> {
         let words = marked_words(count + GUARDS);
         Guarded { words }
+    }
+}
+
+impl Guarded<Step> {
+    pub fn marked(count: usize) -> Guarded<Step> {
+        let words = marked_steps(count + GUARDS);
+        Guarded { words }
+    }
+
+    /// Gate and terms of every record in turn, the guard records too, under the log's name.
+    pub fn records_named(&self, name: &'static str) -> Buffer {
+        let numbers = self.words.iter().flat_map(|step| [step.gate, step.terms]);
+        let words = numbers.map(u64::from).collect();
+        Buffer { name, words }
     }
 }
 

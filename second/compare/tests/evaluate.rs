@@ -1,5 +1,6 @@
 //! The evaluator of one operand pair: the library against the second program.
 
+use compare::library;
 use compare::mirror::Mirror;
 use compare::outcome::{first_difference, numbers_given, Guarded, Outcome};
 use second::cases::pairs::{self, PairCase};
@@ -69,7 +70,7 @@ fn evaluating_gives_the_same_numbers_and_words() {
     assert!(CASES.len() >= 20_000);
     println!("{} cases of evaluating", CASES.len());
     let document = Mirror::of_document();
-    let library = |case: &EvaluateCase| case.outcome(compare::evaluate);
+    let library = |case: &EvaluateCase| case.outcome(library::evaluate);
     let difference = first_difference(&CASES, library, |case| case.by(&document));
     assert!(difference.is_none(), "{}", difference.unwrap());
 }

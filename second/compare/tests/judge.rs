@@ -1,77 +1,15 @@
 //! Judging: the library against the second program.
 
-use compare::mirror::{Mirror, Question};
+use compare::mirror::Mirror;
 use compare::outcome::{first_difference, numbers_given, Guarded, Outcome};
+use compare::{library, Question};
 use second::cases::judgements::{self, and_netlist, two_bits, JudgeCase};
 use second::cases::runs;
 use second::netlists::{random_sound, Made};
 use second::orders;
 use second::random::Random;
-use second::Lent;
+use second::{Lent, Step};
 use std::sync::LazyLock;
-
-/// The library's judge is declared here and not beside the others, so that they link without it.
-mod library {
-    use compare::mirror::Question;
-    use second::Counts;
-
-    extern "C" {
-        fn hraskell_judge(
-            m: u32,
-            i: u32,
-            l: u32,
-            o: u32,
-            a: u32,
-            table: *const u32,
-            table_words: usize,
-            kind: u32,
-            limit: u64,
-            order: *const u32,
-            order_words: usize,
-            store: *mut u64,
-            store_words: usize,
-            scratch: *mut u64,
-            scratch_words: usize,
-            gates: *mut u32,
-            gates_words: usize,
-            terms: *mut u32,
-            terms_words: usize,
-            answer: *mut u64,
-            answer_words: usize,
-        ) -> u32;
-    }
-
-    pub fn judge(question: Question, answer: &mut [u64]) -> u32 {
-        let Counts { m, i, l, o, a } = question.counts;
-        let (table, order, lent) = (question.table, question.order, question.lent);
-        // SAFETY: slices are never null, and those lent for writing overlap nothing.
-        unsafe {
-            hraskell_judge(
-                m,
-                i,
-                l,
-                o,
-                a,
-                table.as_ptr(),
-                table.len(),
-                question.kind,
-                question.limit,
-                order.as_ptr(),
-                order.len(),
-                lent.store.as_mut_ptr(),
-                lent.store.len(),
-                lent.scratch.as_mut_ptr(),
-                lent.scratch.len(),
-                lent.gates.as_mut_ptr(),
-                lent.gates.len(),
-                lent.terms.as_mut_ptr(),
-                lent.terms.len(),
-                answer.as_mut_ptr(),
-                answer.len(),
-            )
-        }
-    }
-}
 
 #[derive(Clone, Debug)]
 struct Call {
@@ -95,8 +33,7 @@ impl Call {
         let order = Guarded::holding(&case.order);
         let mut store = Guarded::<u64>::marked(case.store_words);
         let mut scratch = Guarded::<u64>::marked(case.scratch_words);
-        let mut gates = Guarded::<u32>::marked(case.gate_records);
-        let mut terms = Guarded::<u32>::marked(case.term_records);
+        let mut log = Guarded::<Step>::marked(case.log_records);
         let mut answer = Guarded::<u64>::marked(self.answer_words);
         let question = Question {
             counts: case.counts,
@@ -107,8 +44,7 @@ impl Call {
             lent: Lent {
                 store: store.lent_mut(),
                 scratch: scratch.lent_mut(),
-                gates: gates.lent_mut(),
-                terms: terms.lent_mut(),
+                log: log.lent_mut(),
             },
         };
         let number = judge(question, answer.lent_mut());
@@ -117,8 +53,7 @@ impl Call {
             buffers: vec![
                 answer.named("answer"),
                 store.named("store"),
-                gates.named("gates"),
-                terms.named("terms"),
+                log.records_named("log"),
                 scratch.named("scratch"),
                 table.named("table"),
                 order.named("order"),

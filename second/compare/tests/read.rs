@@ -1,5 +1,6 @@
 //! Reading: the library against the second program.
 
+use compare::library;
 use compare::mirror::Mirror;
 use compare::outcome::{first_difference, numbers_given, Guarded, Outcome};
 use second::cases::damages::{cuts, Damage};
@@ -146,7 +147,7 @@ fn reading_gives_the_same_numbers_and_words() {
     assert!(CASES.len() >= 20_000);
     println!("{} cases of reading", CASES.len());
     let document = Mirror::of_document();
-    let library = |case: &ReadCase| case.outcome(compare::read);
+    let library = |case: &ReadCase| case.outcome(library::read);
     let difference = first_difference(&CASES, library, |case| case.by(&document));
     assert!(difference.is_none(), "{}", difference.unwrap());
 }

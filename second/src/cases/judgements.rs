@@ -2,7 +2,7 @@
 
 use super::pairs::wrong_netlists;
 use super::texts::made_at_limits;
-use super::{marked_numbers, marked_words};
+use super::{marked_steps, marked_words};
 use crate::judge::{judge_by, Answer};
 use crate::netlists::{multiplier, random_sound, with_fault, Made};
 use crate::orders;
@@ -10,7 +10,7 @@ use crate::random::Random;
 use crate::reading::Reading;
 use crate::rules::Rules;
 use crate::table::Counts;
-use crate::words::Lent;
+use crate::words::{Lent, Step};
 
 #[derive(Clone, Debug, PartialEq, Eq)]
 pub struct JudgeCase {
@@ -21,8 +21,7 @@ pub struct JudgeCase {
     pub order: Vec<u32>,
     pub store_words: usize,
     pub scratch_words: usize,
-    pub gate_records: usize,
-    pub term_records: usize,
+    pub log_records: usize,
 }
 
 #[derive(Clone, Debug, PartialEq, Eq)]
@@ -30,8 +29,7 @@ pub struct JudgeSeen {
     pub answer: Answer,
     pub store: Vec<u64>,
     pub scratch: Vec<u64>,
-    pub gates: Vec<u32>,
-    pub terms: Vec<u32>,
+    pub log: Vec<Step>,
 }
 
 impl JudgeCase {
@@ -47,8 +45,7 @@ impl JudgeCase {
             limit,
             store_words,
             scratch_words: 4 * store_words,
-            gate_records: order.len(),
-            term_records: order.len(),
+            log_records: order.len(),
             order,
         }
     }
@@ -56,13 +53,11 @@ impl JudgeCase {
     pub fn seen(&self, rules: &Rules) -> JudgeSeen {
         let mut store = marked_words(self.store_words);
         let mut scratch = marked_words(self.scratch_words);
-        let mut gates = marked_numbers(self.gate_records);
-        let mut terms = marked_numbers(self.term_records);
+        let mut log = marked_steps(self.log_records);
         let lent = Lent {
             store: &mut store,
             scratch: &mut scratch,
-            gates: &mut gates,
-            terms: &mut terms,
+            log: &mut log,
         };
         let (table, order) = (&self.table, &self.order);
         let answer = judge_by(
@@ -78,8 +73,7 @@ impl JudgeCase {
             answer,
             store,
             scratch,
-            gates,
-            terms,
+            log,
         }
     }
 }
@@ -206,29 +200,26 @@ fn wrong_pairs() -> Vec<JudgeCase> {
     cases
 }
 
-/// Lent words: one too few of each, and more than the least of each.
+/// Lent words and records: one too few of each, and more than the least of each.
 fn lengths() -> Vec<JudgeCase> {
     let mut cases = Vec::new();
     for base in [
         JudgeCase::new(&and_netlist(&[6, 6]), 0, 128, vec![3]),
         JudgeCase::new(&all_false(), 2, 128, orders::falling(all_false().counts)),
     ] {
-        for (store, scratch, gates, terms) in [
-            (-1, 0, 0, 0),
-            (0, -1, 0, 0),
-            (0, 0, -1, 0),
-            (0, 0, 0, -1),
-            (3, 0, 0, 0),
-            (0, 5, 0, 0),
-            (0, 0, 2, 0),
-            (0, 0, 0, 4),
-            (7, 7, 3, 2),
+        for (store, scratch, log) in [
+            (-1, 0, 0),
+            (0, -1, 0),
+            (0, 0, -1),
+            (3, 0, 0),
+            (0, 5, 0),
+            (0, 0, 2),
+            (7, 7, 3),
         ] {
             let mut case = base.clone();
             case.store_words = case.store_words.wrapping_add_signed(store);
             case.scratch_words = case.scratch_words.wrapping_add_signed(scratch);
-            case.gate_records = case.gate_records.wrapping_add_signed(gates);
-            case.term_records = case.term_records.wrapping_add_signed(terms);
+            case.log_records = case.log_records.wrapping_add_signed(log);
             cases.push(case);
         }
     }
@@ -290,8 +281,7 @@ pub fn random(random: &mut Random) -> JudgeCase {
     if random.one_in(3) {
         case.store_words += random.below(4);
         case.scratch_words += random.below(4);
-        case.gate_records += random.below(3);
-        case.term_records += random.below(3);
+        case.log_records += random.below(3);
     }
     case
 }

@@ -12,6 +12,8 @@ pub mod runs;
 pub mod texts;
 pub mod wrong;
 
+use crate::words::Step;
+
 /// Words that no answer leaves by chance.
 pub fn marked_words(count: usize) -> Vec<u64> {
     (0..count as u64)
@@ -22,4 +24,15 @@ pub fn marked_words(count: usize) -> Vec<u64> {
 /// The same for 32-bit words.
 pub fn marked_numbers(count: usize) -> Vec<u32> {
     (0..count as u32).map(|place| 0xa5a5_0000 + place).collect()
+}
+
+/// The same for records; gate and terms have marks of their own.
+pub fn marked_steps(count: usize) -> Vec<Step> {
+    marked_numbers(2 * count)
+        .chunks(2)
+        .map(|mark| Step {
+            gate: mark[0],
+            terms: mark[1],
+        })
+        .collect()
 }

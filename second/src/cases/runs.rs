@@ -16,8 +16,7 @@ pub fn lend_more(random: &mut Random, case: &mut JudgeCase) {
     case.table.extend(marked_numbers(random.below(5)));
     case.store_words += random.below(9);
     case.scratch_words += random.below(9);
-    case.gate_records += random.below(5);
-    case.term_records += random.below(5);
+    case.log_records += random.below(5);
 }
 
 /// A run with T one below, at and one above the number of terms that it has after one of its steps.
@@ -40,7 +39,7 @@ fn terms_after_steps(made: &Made, reading: Reading, order: &[u32]) -> Vec<u64> {
     let (counts, table, kind) = (made.counts, &made.table, reading.kind());
     let question = Question::checked(&rules, counts, table, kind, 600, order);
     let run = question.expect("a case that is taken").run(&rules);
-    let numbers = run.log.iter().map(|&(_, terms)| u64::from(terms));
+    let numbers = run.log.iter().map(|step| u64::from(step.terms));
     numbers.filter(|&terms| terms > 128).collect()
 }
 
@@ -157,12 +156,11 @@ const WRONGS: [Wrong; 10] = [
         let no_gates = [0, 1, i, m + 1, 2 * m + 2, (1 << 16) + m, u32::MAX];
         let at = random.below(case.order.len() + 1);
         case.order.insert(at, random.pick(&no_gates));
-        case.gate_records += 1;
-        case.term_records += 1;
+        case.log_records += 1;
     },
     |_, case| {
         case.order = vec![case.counts.m; 4_097];
-        (case.gate_records, case.term_records) = (4_097, 4_097);
+        case.log_records = 4_097;
     },
     |random, case| {
         let needed = case.limit.min(16_384) as usize * case.counts.term_words();
@@ -172,14 +170,7 @@ const WRONGS: [Wrong; 10] = [
             case.scratch_words = 4 * needed - 1 - random.below(3 * needed);
         }
     },
-    |random, case| {
-        let short = case.order.len().saturating_sub(1);
-        if random.one_in(2) {
-            case.gate_records = short;
-        } else {
-            case.term_records = short;
-        }
-    },
+    |_, case| case.log_records = case.order.len().saturating_sub(1),
 ];
 
 /// Every pair of ways to be refused, and every way alone, each on a case of its own that is taken without them.

@@ -3,7 +3,7 @@
 
 use second::cases::judgements::{JudgeCase, JudgeSeen};
 use second::netlists::Made;
-use second::{Answer, Rules};
+use second::{Answer, Rules, Step};
 
 pub const DOCUMENT: Rules = Rules::of_document();
 
@@ -19,4 +19,11 @@ pub fn answered(made: &Made, kind: u32, limit: u64, order: &[u32]) -> Answer {
 /// Whether the store begins with these words and is zero after them.
 pub fn holds(store: &[u64], words: &[u64]) -> bool {
     store[..words.len()] == *words && store[words.len()..].iter().all(|&word| word == 0)
+}
+
+/// The records with these gates and terms.
+pub fn records(gates: &[u32], terms: &[u32]) -> Vec<Step> {
+    assert_eq!(gates.len(), terms.len());
+    let both = gates.iter().zip(terms);
+    both.map(|(&gate, &terms)| Step { gate, terms }).collect()
 }

@@ -1,0 +1,99 @@
+//! The exported functions of the proved program, declared once for all that link it.
+
+use crate::Question;
+use second::{Counts, Step};
+
+extern "C" {
+    fn hraskell_read(
+        text: *const u8,
+        text_bytes: usize,
+        table: *mut u32,
+        table_words: usize,
+        counts: *mut u32,
+        counts_words: usize,
+    ) -> u32;
+
+    fn hraskell_evaluate(
+        m: u32,
+        i: u32,
+        l: u32,
+        o: u32,
+        a: u32,
+        table: *const u32,
+        table_words: usize,
+        x: u64,
+        y: u64,
+        word: *mut u64,
+        word_words: usize,
+    ) -> u32;
+
+    fn hraskell_judge(
+        m: u32,
+        i: u32,
+        l: u32,
+        o: u32,
+        a: u32,
+        table: *const u32,
+        table_words: usize,
+        kind: u32,
+        limit: u64,
+        order: *const u32,
+        order_words: usize,
+        store: *mut u64,
+        store_words: usize,
+        scratch: *mut u64,
+        scratch_words: usize,
+        log: *mut Step,
+        log_records: usize,
+        answer: *mut u64,
+        answer_words: usize,
+    ) -> u32;
+}
+
+/// The library's reader.
+#[rustfmt::skip]
+pub fn read(text: &[u8], table: &mut [u32], counts: &mut [u32]) -> u32 {
+    // SAFETY: slices are never null, and those lent for writing overlap nothing.
+    unsafe {
+        hraskell_read(
+            text.as_ptr(), text.len(),
+            table.as_mut_ptr(), table.len(),
+            counts.as_mut_ptr(), counts.len(),
+        )
+    }
+}
+
+/// The library's evaluator of one operand pair.
+#[rustfmt::skip]
+pub fn evaluate(counts: Counts, table: &[u32], x: u64, y: u64, word: &mut [u64]) -> u32 {
+    let Counts { m, i, l, o, a } = counts;
+    // SAFETY: slices are never null, and the one lent for writing overlaps nothing.
+    unsafe {
+        hraskell_evaluate(
+            m, i, l, o, a,
+            table.as_ptr(), table.len(),
+            x, y,
+            word.as_mut_ptr(), word.len(),
+        )
+    }
+}
+
+/// The library's judge.
+#[rustfmt::skip]
+pub fn judge(question: Question, answer: &mut [u64]) -> u32 {
+    let Counts { m, i, l, o, a } = question.counts;
+    let (table, order, lent) = (question.table, question.order, question.lent);
+    // SAFETY: slices are never null, those lent for writing overlap nothing, and a record is laid out as in C.
+    unsafe {
+        hraskell_judge(
+            m, i, l, o, a,
+            table.as_ptr(), table.len(),
+            question.kind, question.limit,
+            order.as_ptr(), order.len(),
+            lent.store.as_mut_ptr(), lent.store.len(),
+            lent.scratch.as_mut_ptr(), lent.scratch.len(),
+            lent.log.as_mut_ptr(), lent.log.len(),
+            answer.as_mut_ptr(), answer.len(),
+        )
+    }
+}

@@ -6,7 +6,7 @@ use Prim.Native.Nat.{ℕ, _+_, _-_, _*_, _/_, _^_, _<_, _≤_}
 use native.Mathlib.Nat.{mul-le-mul-right}
 use native.Mathlib.Omega.{arith}
 use lib.Dec.{leb}
-use lib.ListN.{length, replicate, length-append, length-replicate}
+use lib.ListN.{length, replicate, length-replicate}
 use lib.Pow.{pow-mono, pow-pos}
 use borrow.Author.Tests.{leb-true}
 use Rattle.rules.specs.Judging.{set-width, term-width, polynomial-words, padded}
@@ -22,7 +22,7 @@ use Rattle.rules.proofs.Bits.{with-variable-under}
 use Rattle.netlist.specs.Taken.{Sound}
 use Rattle.netlist.proofs.Facts.{facts, gate-within}
 use Rattle.words.specs.Stored.{decoded}
-use Rattle.words.proofs.Encoded.{decoded-words, length-polynomial-words}
+use Rattle.words.proofs.Encoded.{decoded-words, length-polynomial-words, length-padded}
 use Rattle.poly.specs.Stepping.{Ready, Stepped}
 use Rattle.judge.specs.Running.{Running, Turned}
 use Rattle.judge.specs.declared.turn.Turn.{Turn}
@@ -31,11 +31,6 @@ use Rattle.judge.specs.declared.turn.Turn.{Turn}
 set-room : (c : Counts) → 2 ^ (c .m + 1) ≤ 2 ^ (64 * set-width c)
 unfolding set-width
 set-room c = pow-mono (omega arith)
-
--- words with zeros behind them are as long as what was lent
-pub length-padded : (lent : ℕ) (words : List ℕ) → length words ≤ lent → length (padded lent words) ≡ lent
-unfolding padded
-length-padded lent words h = simp (length-append, length-replicate) (omega arith)
 
 -- sets that fall below 2^(M + 1), in their words with anything behind them, decode to themselves
 pub decoded-held : (c : Counts) (p : Polynomial) (lent : ℕ) → Below (2 ^ (c .m + 1)) p

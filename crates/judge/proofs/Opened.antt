@@ -23,17 +23,18 @@ use Rattle.rules.specs.declared.answers.StepRecord.{StepRecord}
 use Rattle.rules.specs.declared.counts.Counts.{Counts}
 use Rattle.rules.proofs.Sound.{right-counts, sound-table}
 use Rattle.words.specs.Stored.{decoded}
+use Rattle.words.proofs.Encoded.{length-padded}
 use Rattle.rules.proofs.Bits.{bit-first}
 use Rattle.rules.proofs.Trails.{length-run}
 use Rattle.demands.proofs.Absent.{Absent, false-absent}
 use Rattle.demands.proofs.StepShape.{run-shape}
 use Rattle.demands.proofs.TermLimit.{roomy-le}
-use Rattle.poly.specs.Start.{Asked, Started, counted, within}
+use Rattle.start.specs.Start.{Asked, Started, counted, within}
 use Rattle.judge.specs.Running.{Running, Finished}
 use Rattle.judge.specs.Ending.{Evens, Ending}
 use Rattle.judge.specs.Deciding.{Block, Passed, Begun, Closing, Decided, last}
 use Rattle.judge.specs.declared.run.Ran.{Ran}
-use Rattle.judge.proofs.Held.{decoded-held, length-padded, words-fit, running-decoded, Laid, laid}
+use Rattle.judge.proofs.Held.{decoded-held, words-fit, running-decoded, Laid, laid}
 use Rattle.judge.proofs.Going.{path, trail-first, roomy-full, roomy-next}
 
 -- the polynomials of the run, with the modulus that O gives

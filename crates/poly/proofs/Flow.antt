@@ -14,6 +14,7 @@ use lib.Seq.{drop-cons, getD-set-same, getD-set-other}
 use borrow.Author.Tests.{ltb-true, ltb-false, lt-ltb, le-ltb}
 use Rattle.rules.specs.Polynomial.{Polynomial, Below, keep}
 use Rattle.rules.proofs.Terms.{hit-add, hit-mod, coefficient-cons}
+use Rattle.rules.proofs.Gathered.{keep-some}
 use Rattle.words.specs.Numbers.{num, words-at, masked, order-by, order-of}
 use Rattle.words.specs.Stored.{decoded}
 use Rattle.words.specs.declared.sets.Order.{Order}
@@ -50,13 +51,7 @@ said m n = go (ltb m n) (ltb n m) refl refl
 pub read-order : (m n : ℕ) (o : Order) → order-of m n ≡ o → Said m n o
 read-order m n o e = rw e at (said m n)
 
--- a term with a coefficient stays
-keep-some : (c s : ℕ) (p : Polynomial) → 0 < c → keep c s p ≡ (c, s) ∷ p
-unfolding keep
-keep-some zero s p h = absurd (omega arith)
-keep-some (suc c) s p h = refl
-
--- a term without one goes
+-- a term without a coefficient goes
 keep-none : (c s : ℕ) (p : Polynomial) → c ≡ 0 → keep c s p ≡ p
 unfolding keep
 keep-none c s p h = rw h

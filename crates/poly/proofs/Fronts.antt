@@ -8,7 +8,7 @@ use native.Mathlib.Omega.{arith}
 use Rattle.rules.specs.Each.{sum, joined}
 use Rattle.rules.specs.Polynomial.{Polynomial, hit, coefficient-at, Below, Coefficients, Under, gather}
 use Rattle.rules.proofs.Indices.{sum-same}
-use Rattle.rules.proofs.Terms.{hit-zero, weaken, above, coefficient-cons, coefficient-append}
+use Rattle.rules.proofs.Terms.{hit-zero, weaken, above, coefficient-cons, coefficient-append, coefficient-joined}
 use Rattle.rules.proofs.Gathered.{unique, under-of, gather-below, gather-coefficients, gather-coefficient}
 use Rattle.poly.specs.Streams.{Lows}
 
@@ -16,12 +16,6 @@ use Rattle.poly.specs.Streams.{Lows}
 unfoldable pub floor : ℕ → Polynomial → ℕ
 floor hi [] = hi
 floor hi (x ∷ p) = floor (x .1) p
-
--- the coefficient of lists, one behind the other
-pub coefficient-joined : (k : ℕ) (q : ℕ → Polynomial) (u : ℕ) → coefficient-at (joined k q) u ≡ sum k (λ j. coefficient-at (q j) u)
-unfolding joined sum coefficient-at
-coefficient-joined zero q u = refl
-coefficient-joined (suc k) q u = rw (coefficient-append (joined k q) (q k) u, coefficient-joined k q u)
 
 -- the last set is at most the bound
 pub floor-le : (hi : ℕ) (p : Polynomial) → Below hi p → floor hi p ≤ hi
@@ -150,9 +144,3 @@ sum-swap m k j a b z f g l h e s =
     let x : a + sum k f ≡ rest + (a + f j) = omega arith in
     let y : b + sum k g ≡ rest + (b + g j) = omega arith in
     s ∙ ap (λ (n : ℕ). n % m) x ∙ sym (add-mod-mod rest (a + f j) m) ∙ ap (λ (n : ℕ). (rest + n) % m) (sym e) ∙ add-mod-mod rest (b + g j) m ∙ ap (λ (n : ℕ). n % m) (sym y)
-
--- a sum of sums
-pub sum-add : (k : ℕ) (f g : ℕ → ℕ) → sum k (λ j. f j + g j) ≡ sum k f + sum k g
-unfolding sum
-sum-add zero f g = refl
-sum-add (suc k) f g = rw (sum-add k f g) (omega arith)

@@ -11,15 +11,14 @@ use Rattle.rules.specs.Netlist.{variable}
 use Rattle.rules.specs.Values.{bit}
 use Rattle.rules.specs.Polynomial.{Term, Polynomial, hit, coefficient-at, Below, Under, keep, gather}
 use Rattle.rules.specs.Steps.{replaced, all-replaced}
-use Rattle.rules.proofs.Indices.{sum-same}
-use Rattle.rules.proofs.Terms.{coefficient-append}
+use Rattle.rules.proofs.Indices.{sum-same, sum-add}
+use Rattle.rules.proofs.Terms.{coefficient-append, coefficient-joined}
 use Rattle.rules.proofs.Gathered.{keep-coefficient, gather-same}
 use Rattle.poly.specs.Signs.{scale, sign, mask-of}
 use Rattle.poly.specs.Streams.{sign-of, weight, row, stream, streams, Tables}
 use Rattle.poly.specs.declared.streams.Gate.{Gate}
 use Rattle.poly.proofs.Flipped.{bit-lt}
 use Rattle.poly.proofs.Flow.{scale-none}
-use Rattle.poly.proofs.Fronts.{sum-add, coefficient-joined}
 use Rattle.poly.proofs.Replacing.{Small, term-sum, shift, out-of, in-of}
 
 -- sums that agree modulo m

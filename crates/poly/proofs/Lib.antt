@@ -1,11 +1,3 @@
--- Why what is written is the start polynomial of the rules.
-pub mod StartSums
-pub mod StartOutputs
-pub mod StartWhole
-pub mod StartWeights
-pub mod StartWords
-pub mod StartLoops
-pub mod StartEnds
 -- Why a step in lent words is the step of the rules.
 pub mod Flipped
 pub mod Fronts

@@ -12,7 +12,7 @@ use lib.Seq.{drop-drop, drop-at, length-take-le}
 use Rattle.rules.specs.Each.{sum, joined}
 use Rattle.rules.specs.Polynomial.{Polynomial, coefficient-at, Below, Under, gather}
 use Rattle.rules.proofs.Indices.{sum-same}
-use Rattle.rules.proofs.Terms.{weaken}
+use Rattle.rules.proofs.Terms.{weaken, coefficient-joined}
 use Rattle.words.specs.Numbers.{num, words-at, masked}
 use Rattle.words.specs.Stored.{decoded}
 use Rattle.words.proofs.Numbers.{length-masked}
@@ -20,7 +20,7 @@ use Rattle.words.proofs.Stored.{decoded-more, length-decoded, stride-le}
 use Rattle.poly.specs.Streams.{weight, stream, streams, rest, rank, mask-at, Lows, Masks, Next, Loaded, Swept, Emitted, Merged, Behind}
 use Rattle.poly.specs.declared.streams.Gate.{Gate}
 use Rattle.poly.proofs.Flow.{stream-some, stream-end, stream-pass, rank-end, rank-live, key-num, bounds}
-use Rattle.poly.proofs.Fronts.{floor, Merging, under-joined, coefficient-joined, sum-less, merge-front, merge-skip, merge-take, joined-none}
+use Rattle.poly.proofs.Fronts.{floor, Merging, under-joined, sum-less, merge-front, merge-skip, merge-take, joined-none}
 
 -- no term, no coefficient
 no-coefficient : (u n : ℕ) → coefficient-at [] u + n ≡ n

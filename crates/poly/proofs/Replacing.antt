@@ -6,18 +6,16 @@ use mathlib.Core.Logic.{⊎-elim}
 use Prim.Native.Nat.{ℕ, zero, suc, _+_, _-_, _/_, _%_, _^_, _<_, _≤_}
 use native.Mathlib.Nat.{add-zero, zero-add, zero-mul, one-mul, mod-add-mod, add-mod-mod, mod-self, zero-mod, add-mod}
 use native.Mathlib.Omega.{arith}
-use lib.Bits.{bitXor, xor-zero-r, xor-lt}
-use lib.Pow.{pow-lt}
+use lib.Bits.{bitXor, xor-zero-r}
 use Rattle.rules.specs.Each.{sum}
 use Rattle.rules.specs.Netlist.{variable, inverted}
 use Rattle.rules.specs.Values.{bit}
-use Rattle.rules.specs.Polynomial.{Term, Polynomial, hit, coefficient-at, Under, Below, Coefficients, gather, with-variable, times-variable, times-literal}
+use Rattle.rules.specs.Polynomial.{Term, Polynomial, hit, coefficient-at, Below, Coefficients, gather, with-variable, times-variable, times-literal}
 use Rattle.rules.specs.Steps.{where-held, replaced, all-replaced}
 use Rattle.rules.proofs.Terms.{hit-add, hit-zero, hit-mod, coefficient-append}
-use Rattle.rules.proofs.Gathered.{unique, under-of, gather-below, gather-same}
+use Rattle.rules.proofs.Gathered.{unique, under-of, gather-same}
 use Rattle.poly.specs.Signs.{scale, sign-product, factor, if-held, if-absent, sign, mask-of, Alike}
 use Rattle.poly.specs.Stepping.{occurs-in}
-use Rattle.poly.proofs.Fronts.{under-append}
 use Rattle.poly.proofs.Flipped.{bit-two, flip-off, flip-on, flip-other, flip-same, xor-assoc}
 
 module _ (m x n u : ℕ) where
@@ -303,48 +301,6 @@ module _ (v x y s : ℕ) (nx : variable x ≡ v → ⊥) (ny : variable y ≡ v 
       let l : bitXor (bitXor (bitXor s (2 ^ v)) (2 ^ variable y)) (2 ^ variable x) ≡ bitXor (bitXor s (2 ^ v)) (2 ^ variable y) + 2 ^ variable x = flip-on (bitXor (bitXor s (2 ^ v)) (2 ^ variable y)) (variable x) (flip-other (bitXor s (2 ^ v)) (variable y) (variable x) ne ∙ flip-other s v (variable x) nx ∙ a) in
       rw (← xor-assoc s (bitXor (2 ^ v) (2 ^ variable y)) (2 ^ variable x), ← xor-assoc s (2 ^ v) (2 ^ variable y)) (omega arith)
   shift (suc (suc (suc (suc j)))) h = rw (xor-zero-r)
-
--- the sets of a step stay below a power of two that is above the gate's variables
-module _ (e : ℕ) where
-  -- a set with one more variable
-  with-lt : (s x : ℕ) → s < 2 ^ e → x < e → with-variable s x < 2 ^ e
-  with-lt s x h l = ⊎-elim
-      (λ (z : bit s x ≡ 0). rw (with-out s x z) (xor-lt e s (2 ^ x) h (pow-lt {i = x} {j = e} l)))
-      (λ (z : bit s x ≡ 1). rw (with-in s x z) h)
-      (bit-two s x)
-
-  -- a term times a literal
-  literal-under : (m x n : ℕ) (t : Term) → x < e → t .1 < 2 ^ e → Under (2 ^ e) (times-variable m x n t)
-  unfolding times-variable
-  literal-under m zero zero t l h = tt
-  literal-under m zero (suc n) t l h = (h, tt)
-  literal-under m (suc x) zero t l h = (with-lt (t .1) (suc x) h l, tt)
-  literal-under m (suc x) (suc n) t l h = (h, (with-lt (t .1) (suc x) h l, tt))
-
-  -- a polynomial times a literal
-  times-under : (m x : ℕ) (p : Polynomial) → variable x < e → Under (2 ^ e) p → Under (2 ^ e) (times-literal m x p)
-  unfolding times-literal
-  times-under m x [] l h = tt
-  times-under m x (t ∷ p) l h = under-append (2 ^ e) (times-variable m (variable x) (inverted x) t) (times-literal m x p) (literal-under m (variable x) (inverted x) t l (h .0)) (times-under m x p l (h .1))
-
-  -- one of two polynomials
-  where-under : (b : ℕ) (p q : Polynomial) → Under (2 ^ e) p → Under (2 ^ e) q → Under (2 ^ e) (where-held b p q)
-  unfolding where-held
-  where-under zero p q h k = h
-  where-under (suc b) p q h k = k
-
-  -- every term replaced
-  replaced-under : (m v x y : ℕ) (p : Polynomial) → variable x < e → variable y < e → Under (2 ^ e) p → Under (2 ^ e) (all-replaced m v x y p)
-  unfolding all-replaced replaced
-  replaced-under m v x y [] lx ly h = tt
-  replaced-under m v x y (t ∷ p) lx ly h =
-      under-append (2 ^ e) (where-held (bit (t .1) v) (t ∷ []) (times-literal m x (times-literal m y ((t .0, t .1 - 2 ^ v) ∷ [])))) (all-replaced m v x y p)
-      (where-under (bit (t .1) v) _ _ (h .0, tt) (times-under m x (times-literal m y ((t .0, t .1 - 2 ^ v) ∷ [])) lx (times-under m y ((t .0, t .1 - 2 ^ v) ∷ []) ly (omega (arith, h .0), tt))))
-      (replaced-under m v x y p lx ly (h .1))
-
-  -- and gathered
-  pub step-below : (m v x y : ℕ) (p : Polynomial) → variable x < e → variable y < e → Under (2 ^ e) p → Below (2 ^ e) (gather m (all-replaced m v x y p))
-  step-below m v x y p lx ly h = gather-below m (2 ^ e) (all-replaced m v x y p) (replaced-under m v x y p lx ly h)
 
 -- a set with a variable put in has it
 bit-with : (s x : ℕ) → bit (with-variable s x) x ≡ 1

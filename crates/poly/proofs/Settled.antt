@@ -1,4 +1,4 @@
--- Laws of the step in the store: the look for v, what is moved and cleared, and the state for the next step.
+-- Laws of the step in the store: the look for v, and what is moved and cleared.
 use mathlib.Core.Path.{_≡_, refl, ap, sym, _∙_}
 use mathlib.Core.Bool.{Bool, true, false, not, cond}
 use mathlib.Core.List.{List, _∷_, _++_}
@@ -6,25 +6,24 @@ use Prim.Native.Nat.{ℕ, suc, _+_, _-_, _*_, _/_, _^_, _<_, _≤_}
 use native.Mathlib.Numerals.{add-one}
 use native.Mathlib.Omega.{arith}
 use lib.Dec.{ltb, leb}
-use lib.ListN.{length, getD, take, drop, replicate, length-append, length-replicate, replicate-append-replicate, drop-of-length-le}
+use lib.ListN.{length, getD, take, drop, replicate, replicate-append-replicate, drop-of-length-le}
 use lib.Pow.{pow-pos}
 use lib.Seq.{drop-cons, drop-drop, take-at, drop-at, length-take-le}
 use borrow.Author.Tests.{eq-eqb, ne-eqb, ltb-true, ltb-false, le-leb, lt-leb}
 use Rattle.rules.specs.Judging.{polynomial-words, padded}
 use Rattle.rules.specs.Netlist.{variable}
-use Rattle.rules.specs.Polynomial.{Polynomial, Below, gather}
+use Rattle.rules.specs.Polynomial.{Polynomial, gather}
 use Rattle.rules.specs.Steps.{all-replaced}
 use Rattle.rules.specs.Values.{bit}
-use Rattle.rules.proofs.Gathered.{under-of, gather-coefficients}
 use Rattle.words.specs.Stored.{term-at, decoded}
 use Rattle.words.specs.Numbers.{num, words-at}
 use Rattle.words.proofs.Stored.{decoded-at, length-decoded, stride-le}
-use Rattle.words.proofs.Encoded.{length-polynomial-words, words-decoded, decoded-stored, zeros-behind}
+use Rattle.words.proofs.Encoded.{words-decoded, zeros-behind}
 use Rattle.poly.specs.Signs.{Apart}
 use Rattle.poly.specs.Streams.{Emitted}
 use Rattle.poly.specs.Stepping.{occurs-in, Gathered, Prepared, Ready, Stepped}
 use Rattle.poly.specs.declared.gates.Pair.{Pair}
-use Rattle.poly.proofs.Replacing.{step-alike, step-absent, step-below}
+use Rattle.poly.proofs.Replacing.{step-alike, step-absent}
 use Rattle.poly.proofs.Tables.{small-of, drop-zeros}
 
 -- what was written, by what was found: no coefficient
@@ -162,39 +161,3 @@ module _ (w l v x y limit held : ℕ) (store scratch : List ℕ) (h : Ready w l 
 pub not-so : (b : Bool) → not b ≡ true → b ≡ false
 not-so true h = sym h
 not-so false h = refl
-
--- a padded list is as long as what was lent
-length-padded : (lent : ℕ) (words : List ℕ) → length words ≤ lent → length (padded lent words) ≡ lent
-unfolding padded
-length-padded lent words h = simp (length-append, length-replicate) (omega arith)
-
--- after a step that fits, the store is ready for the next gate
-pub ready-next : (w l v x y limit held r : ℕ) (store scratch store′ scratch′ : List ℕ) (v′ x′ y′ : ℕ) → Ready w l v x y limit held store scratch
-    → Stepped w limit (gather (2 ^ l) (all-replaced (2 ^ l) v x y (decoded w held store))) store scratch r store′ scratch′
-    → length (gather (2 ^ l) (all-replaced (2 ^ l) v x y (decoded w held store))) ≤ limit
-    → v′ < 64 * w → variable x′ < v′ → variable y′ < v′ → Ready w l v′ x′ y′ limit r store′ scratch′
-ready-next w l v x y limit held r store scratch store′ scratch′ v′ x′ y′ h s fits hv hx hy =
-    let q : Polynomial = gather (2 ^ l) (all-replaced (2 ^ l) v x y (decoded w held store)) in
-    let t : leb (length q) limit ≡ true = le-leb (length q) limit fits in
-    let n : r ≡ length q = rw t at (s .counted) in
-    let st : store′ ≡ padded (length store) (polynomial-words w q) = rw t at (s .stored) in
-    let words : length (polynomial-words w q) ≡ length q * (w + 1) = length-polynomial-words w q in
-    let ls : length store′ ≡ length store = ap length st ∙ length-padded (length store) (polynomial-words w q) (rw words (stride-le (length q) limit w (length store) fits (h .store-room))) in
-    let lc : length scratch′ ≡ length scratch = ap length (s .cleared) ∙ length-replicate (length scratch) 0 in
-    let below : Below (2 ^ (64 * w)) q = step-below (64 * w) (2 ^ l) v x y (decoded w held store) (omega (arith, h .x-low, h .v-in)) (omega (arith, h .y-low, h .v-in)) (under-of (2 ^ (64 * w)) (2 ^ (64 * w)) (decoded w held store) (omega arith) (h .falls)) in
-    let own : store′ ≡ padded (length store′) (polynomial-words w q) = rw ls st in
-    let d : decoded w r store′ ≡ q = rw n (decoded-stored w store′ q (under-of (2 ^ (64 * w)) (2 ^ (64 * w)) q (omega arith) below) own) in
-    record {
-      narrow = h .narrow;
-      l-high = h .l-high;
-      v-in = hv;
-      x-low = hx;
-      y-low = hy;
-      held-most = rw n fits;
-      store-room = rw ls (h .store-room);
-      scratch-room = rw lc (h .scratch-room);
-      falls = rw d below;
-      coefficients = rw d (gather-coefficients (2 ^ l) (all-replaced (2 ^ l) v x y (decoded w held store)) (pow-pos l));
-      kept = rw d own;
-      clean = rw lc (s .cleared);
-    }

@@ -1,5 +1,4 @@
--- What polynomials are in lent words.
-pub mod Start
+-- What a step is in lent words.
 pub mod Signs
 pub mod Streams
 pub mod Stepping

@@ -1,8 +1,6 @@
-// Polynomials in lent words: the start polynomial, written in falling order, and a step, which replaces a gate by the product
-// of its two literals in one merge of sorted streams.
+// A step of a polynomial in lent words, which replaces a gate by the product of its two literals in one merge of sorted streams.
 mod gates; // gates.rt: a gate's literals as signs and masks
 mod heads; // heads.rt: the largest set at the heads of the streams
 mod merging; // merging.rt: the merge
-pub mod start; // start.rt: the start polynomial
 pub mod step; // step.rt: a step
 mod streams; // streams.rt: the terms of a stream

@@ -12,6 +12,12 @@ use Rattle.rules.specs.Polynomial.{Term, Polynomial, hit, coefficient-at
 use Rattle.rules.proofs.Weighed.{hit-times, weighed-coefficient, weighed-keep, weighed-gather}
 use Rattle.rules.proofs.Terms.{hit-same, hit-other, weaken, above, same}
 
+-- a term with a coefficient stays
+pub keep-some : (c s : ℕ) (p : Polynomial) → 0 < c → keep c s p ≡ (c, s) ∷ p
+unfolding keep
+keep-some zero s p h = absurd (omega arith)
+keep-some (suc c) s p h = refl
+
 pub keep-below : (c s b : ℕ) (p : Polynomial) → s < b → Below s p → Below b (keep c s p)
 unfolding keep
 keep-below zero s b p h u = weaken s b p (omega arith) u

@@ -2,11 +2,12 @@
 use mathlib.Core.Path.{_≡_, refl, sym, _∙_}
 use mathlib.Core.Bool.{Bool, true, false, cond}
 use mathlib.Core.List.{[], _∷_, _++_}
-use Prim.Native.Nat.{ℕ, _+_, _%_, _<_, _≤_}
+use Prim.Native.Nat.{ℕ, zero, suc, _+_, _%_, _<_, _≤_}
 use native.Mathlib.Nat.{add-zero, zero-add, zero-mod}
 use native.Mathlib.Omega.{arith}
 use lib.Dec.{ltb, eqb}
 use borrow.Author.Tests.{eq-eqb, ne-eqb, ltb-true, ltb-false}
+use Rattle.rules.specs.Each.{sum, joined}
 use Rattle.rules.specs.Polynomial.{Term, Polynomial, hit, coefficient-at, Below, Coefficients}
 use Rattle.rules.proofs.Weighed.{weighed-coefficient, weighed-append}
 
@@ -107,3 +108,9 @@ same m b d (x ∷ p) (y ∷ q) hp hq kp kq e =
 pub coefficient-append : (p q : Polynomial) (u : ℕ) → coefficient-at (p ++ q) u ≡ coefficient-at p u + coefficient-at q u
 coefficient-append p q u =
     rw (weighed-coefficient u (p ++ q), weighed-coefficient u p, weighed-coefficient u q) (weighed-append (λ s. hit u s 1) p q)
+
+-- the coefficient of lists, one behind the other
+pub coefficient-joined : (n : ℕ) (list : ℕ → Polynomial) (u : ℕ) → coefficient-at (joined n list) u ≡ sum n (λ i. coefficient-at (list i) u)
+unfolding joined sum coefficient-at
+coefficient-joined zero list u = refl
+coefficient-joined (suc n) list u = rw (coefficient-append (joined n list) (list n) u, coefficient-joined n list u)

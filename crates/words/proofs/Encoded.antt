@@ -4,7 +4,7 @@ use mathlib.Core.List.{List, [], _∷_, _++_, append-assoc}
 use Prim.Native.Nat.{ℕ, zero, suc, _+_, _-_, _*_, _/_, _%_, _^_, _<_, _≤_}
 use native.Mathlib.Nat.{zero-mul, suc-mul, mul-assoc, mod-eq-of-lt, mod-one, div-one}
 use native.Mathlib.Omega.{arith}
-use lib.ListN.{length, getD, take, drop, replicate, length-append, length-drop, take-append-drop}
+use lib.ListN.{length, getD, take, drop, replicate, length-append, length-replicate, length-drop, take-append-drop}
 use lib.Pow.{high, low, shr-shr, mod-pow-add, pow-add}
 use lib.Seq.{ext-getD, take-at, drop-at, getD-drop, take-add, length-take-le}
 use Rattle.rules.specs.Each.{listed}
@@ -83,6 +83,11 @@ words-decoded w (suc k) (x ∷ s) f h =
     let a : listed w (λ j. num (take w s) / 2 ^ (64 * j) % 2 ^ 64) ≡ take w s = listed-num w (take w s) (length-take-le w s (omega arith)) (words-from (x ∷ s) 1 w (omega arith) f) in
     let b : polynomial-words w (decoded w k (drop w s)) ≡ take (k * (w + 1)) (drop w s) = words-decoded w k (drop w s) (λ n. rw (getD-drop w s n 0) (f (suc (w + n)))) (simp length-drop (omega arith)) in
     rw (e, a, b, take-add w (k * (w + 1)) s)
+
+-- words with zeros behind them are as long as what was lent
+pub length-padded : (lent : ℕ) (words : List ℕ) → length words ≤ lent → length (padded lent words) ≡ lent
+unfolding padded
+length-padded lent words h = simp (length-append, length-replicate) (omega arith)
 
 module _ (w : ℕ) (s : List ℕ) where
   -- terms with zeros behind them are the words of the polynomial that they decode to

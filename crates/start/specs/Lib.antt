@@ -1,0 +1,2 @@
+-- What the start polynomial is in lent words.
+pub mod Start

@@ -2,9 +2,10 @@
 use mathlib.Core.Path.{_≡_, ap, sym, _∙_}
 use mathlib.Core.List.{List, [], _∷_, _++_, append-assoc, append-nil}
 use Prim.Native.Nat.{ℕ, zero, suc, _+_, _*_, _/_, _%_, _^_, _<_, _≤_}
-use native.Mathlib.Nat.{add-assoc, mul-le-mul}
+use native.Mathlib.Nat.{add-assoc, mul-le-mul, zero-mul}
 use native.Mathlib.Numerals.{add-one}
 use native.Mathlib.Omega.{arith}
+use lib.Bits.{bitAnd, bitXor, and-zero-l, and-zero-r, and-self, xor-zero-l, xor-zero-r, xor-self}
 use lib.ListN.{length, getD, take, set}
 use lib.Seq.{take-suc-set, getD-take}
 use Rattle.rules.specs.Each.{sum, listed}
@@ -34,8 +35,25 @@ literal-bit xs x h = go (inverted x)
     go (suc k) = omega arith
 
 -- the product of two such values is 0 or 1
-pub times-bit : (x y : ℕ) → x ≤ 1 → y ≤ 1 → x * y ≤ 1
+times-bit : (x y : ℕ) → x ≤ 1 → y ≤ 1 → x * y ≤ 1
 times-bit x y h k = mul-le-mul h k
+
+-- of two bits, both is their product
+pub and-bits : (x y : ℕ) → x ≤ 1 → y ≤ 1 → bitAnd x y ≡ x * y
+and-bits zero y h k = and-zero-l y ∙ sym (zero-mul y)
+and-bits (suc zero) zero h k = and-zero-r 1
+and-bits (suc zero) (suc zero) h k = and-self 1
+and-bits (suc zero) (suc (suc y)) h k = absurd (omega arith)
+and-bits (suc (suc x)) y h k = absurd (omega arith)
+
+-- of two bits, one turned by the other
+pub turned-bits : (i value : ℕ) → i ≤ 1 → value ≤ 1 → bitXor value i ≡ turned i value
+unfolding turned
+turned-bits zero value h k = xor-zero-r value
+turned-bits (suc zero) zero h k = xor-zero-l 1
+turned-bits (suc zero) (suc zero) h k = xor-self 1
+turned-bits (suc zero) (suc (suc value)) h k = absurd (omega arith)
+turned-bits (suc (suc i)) value h k = absurd (omega arith)
 
 -- one bit more of a number, behind what is filled
 pub bits-more : (xs front : List ℕ) (x at i : ℕ) → at + i < length xs → take (at + i) xs ≡ front ++ listed i (bit x)

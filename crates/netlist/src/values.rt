@@ -22,11 +22,7 @@ fn literal(values: &[u8], x: u32) -> u8
     requires { ⌜ (variable x < length (now values)) × (getD (now values) (variable x) 0 ≤ 1) ⌝ }
     ensures { λ r. ⌜ r ≡ literal-value (now (values .entry)) x ⌝ }
 {
-    let value = values[(x / 2) as usize];
-    if x % 2 == 0 {
-        return value;
-    }
-    1 - value
+    values[(x / 2) as usize] ^ (x % 2) as u8
 }
 
 // Writes the first n bits of x from place `at` on.
@@ -58,7 +54,7 @@ fn put_gate(c: Counts, table: &[u32], v: u32, values: &mut [u8])
 {
     let x = literal(values, rhs0(c, table, v));
     let y = literal(values, rhs1(c, table, v));
-    values[v as usize] = x * y;
+    values[v as usize] = x & y;
 }
 
 // Writes the values of all variables.

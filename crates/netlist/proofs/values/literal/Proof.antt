@@ -1,35 +1,25 @@
--- `literal` by the literal's inversion. Assumes nothing.
-use mathlib.Core.Path.{_≡_}
-use Prim.Native.Nat.{_%_}
+-- `literal` turns the variable's value by the literal's inversion, and both are bits. Assumes nothing.
 use native.Mathlib.Omega.{arith}
 use borrow.Author.Needs.{needs}
 use Rattle.rules.specs.Netlist.{variable, inverted}
-use Rattle.rules.specs.Values.{turned, literal-value}
+use Rattle.rules.specs.Values.{literal-value}
+use Rattle.netlist.proofs.Filled.{turned-bits}
 use Rattle.netlist.proofs.values.literal.Statement.{statement}
 use Rattle.netlist.proofs.values.literal.Tie as tie
 
-cast-value : tie.Need-cast-value
-cast-value c = search needs
+cast-result : tie.Need-cast-result
+cast-result c = search needs
 
-shared-slice-read-value : tie.Need-shared-slice-read-value
+shared-slice-read-result : tie.Need-shared-slice-read-result
 unfolding variable
-shared-slice-read-value c = c .before .pre .0
+shared-slice-read-result c = c .before .pre .0
+
+cast-result-2 : tie.Need-cast-result-2
+cast-result-2 c = search needs
 
 returns : tie.Need-returns
-unfolding literal-value turned inverted variable
-returns c =
-    let e : c .before .before .args .x % 2 ≡ 0 = omega arith in
-    rw e
-
-sub-result : tie.Need-sub-result
-unfolding variable
-sub-result c = c .before .before .pre .1
-
-returns-2 : tie.Need-returns-2
-unfolding literal-value turned inverted variable
-returns-2 c =
-    let e : c .before .before .args .x % 2 ≡ 1 = omega arith in
-    rw e
+unfolding literal-value inverted variable
+returns c = turned-bits _ _ (omega arith) (c .before .pre .1)
 
 pub literal-spec : {M : Type 1} → statement M
-literal-spec = tie.close (tie.spec cast-value shared-slice-read-value returns sub-result returns-2)
+literal-spec = tie.close (tie.spec cast-result shared-slice-read-result cast-result-2 returns)

@@ -4,7 +4,7 @@ use native.Mathlib.Omega.{arith}
 use borrow.Author.Needs.{needs}
 use Rattle.netlist.specs.Taken.{Bits}
 use Rattle.netlist.proofs.Facts.{gate-within}
-use Rattle.netlist.proofs.Filled.{literal-bit, times-bit, gate-put}
+use Rattle.netlist.proofs.Filled.{literal-bit, and-bits, gate-put}
 use Rattle.netlist.proofs.values.put_gate.Statement.{statement}
 use Rattle.netlist.proofs.values.put_gate.Tie as tie
 
@@ -28,16 +28,6 @@ literal-requires-2 c κs =
     let w = gate-within (p .0) _ (p .1) (p .2) in
     rw (c .rhs1 .ensures) (omega (arith, w .1), p .4 _ (w .1))
 
-mul-values : tie.Need-mul-values
-unfolding Bits
-mul-values c =
-    let one = c .before .before .before in
-    let p = one .before .before .before .before .before .pre in
-    let w = gate-within (p .0) _ (p .1) (p .2) in
-    let x : one .literal .result ≤ 1 = rw (one .literal .ensures, one .before .rhs0 .ensures) (literal-bit _ _ (p .4 _ (w .0))) in
-    let y : c .literal2 .result ≤ 1 = rw (c .literal2 .ensures, c .before .rhs1 .ensures) (literal-bit _ _ (p .4 _ (w .1))) in
-    omega (arith, times-bit (one .literal .result) (c .literal2 .result) x y)
-
 slice-write-values : tie.Need-slice-write-values
 slice-write-values c = search needs
 
@@ -45,6 +35,7 @@ same-length : tie.Need-same-length
 same-length c = search needs
 
 returns : tie.Need-returns
+unfolding Bits
 returns c =
     let one = c .before .before .before in
     let s = one .before .before .before .before .before in
@@ -52,7 +43,8 @@ returns c =
     let w = gate-within (s .pre .0) _ (s .pre .1) (s .pre .2) in
     let x = rw (one .before .rhs0 .ensures) at (one .literal .ensures) in
     let y = rw (c .before .rhs1 .ensures) at (c .literal2 .ensures) in
-    gate-put (a .c) (a .table .now) (a .values .now) (a .v) _ _ (s .pre .3) w x y
+    let both = and-bits (one .literal .result) (c .literal2 .result) (rw x (literal-bit _ _ (s .pre .4 _ (w .0)))) (rw y (literal-bit _ _ (s .pre .4 _ (w .1)))) in
+    rw both (gate-put (a .c) (a .table .now) (a .values .now) (a .v) _ _ (s .pre .3) w x y)
 
 pub put-gate-spec : {M : Type 1} → statement M
 put-gate-spec =
@@ -62,7 +54,6 @@ put-gate-spec =
     literal-requires
     rhs1-requires
     literal-requires-2
-    mul-values
     slice-write-values
     same-length
     returns)

@@ -28,14 +28,14 @@ digits-enough (suc k) (suc j) x h l = go (ltb x 10) refl (λ a b. digits-enough 
         rw (r (omega arith) (omega arith))
 
 -- a number below 10 is one digit
-decimal-one : (x : ℕ) → x < 10 → decimal x ≡ (48 + x) ∷ []
+pub decimal-one : (x : ℕ) → x < 10 → decimal x ≡ (48 + x) ∷ []
 unfolding decimal digits
 decimal-one x h =
     let e : 48 + x % 10 ≡ 48 + x = omega arith in
     rw (lt-ltb x 10 h, e)
 
 -- any other is the digits of its tens, and one more
-decimal-more : (x : ℕ) → 10 ≤ x → decimal x ≡ decimal (x / 10) ++ (48 + x % 10) ∷ []
+pub decimal-more : (x : ℕ) → 10 ≤ x → decimal x ≡ decimal (x / 10) ++ (48 + x % 10) ∷ []
 unfolding decimal digits
 decimal-more zero h = absurd (omega arith)
 decimal-more (suc x) h = rw (le-ltb (suc x) 10 h, digits-enough x (suc x / 10) (suc x / 10) (omega arith) (omega arith))
@@ -73,7 +73,7 @@ decimal-digits =
     (λ x h r. rw (decimal-more x h) (every-append (decimal (x / 10)) _ r (digit-byte (x % 10) (omega arith))))
 
 -- the value of digits, one part behind the other
-value-append : (v : ℕ) (a b : List ℕ) → value-from v (a ++ b) ≡ value-from (value-from v a) b
+pub value-append : (v : ℕ) (a b : List ℕ) → value-from v (a ++ b) ≡ value-from (value-from v a) b
 unfolding value-from
 value-append v [] b = refl
 value-append v (x ∷ a) b = value-append (10 * v + (x - 48)) a b
@@ -94,7 +94,7 @@ decimal-length =
     (λ x h r. rw (decimal-more x h) (simp length-append (omega arith)))
 
 -- below 10 ^ (k + 1) it has at most k + 1
-decimal-short : (x k : ℕ) → x < 10 ^ suc k → length (decimal x) ≤ suc k
+pub decimal-short : (x k : ℕ) → x < 10 ^ suc k → length (decimal x) ≤ suc k
 decimal-short =
     by-tens (λ x. (k : ℕ) → x < 10 ^ suc k → length (decimal x) ≤ suc k)
     (λ x h k l. rw (decimal-one x h) (omega arith))

@@ -40,5 +40,6 @@ pub mod Decides
 pub mod ReadRefused
 pub mod Refused
 pub mod DeskRefused
+pub mod DeskTable
 -- stand-ins that are shut out
 pub mod StandIns

@@ -136,3 +136,7 @@ DeskRefusedExact =
     (input : List ℕ) (r : Line) → Lined input r
     → ((k : ℕ) → DeskUnfit input k → line-of r ≡ printed (refuses k))
     × (getD (line-of r) 0 0 ≡ 88 → (k : ℕ) × DeskUnfit input k × (line-of r ≡ printed (refuses k)))
+
+-- the desk never prints `X 3`: its table has room for every O and A within the limits
+abbrev pub DeskNeverShort : Type 0
+DeskNeverShort = (input : List ℕ) (r : Line) → Lined input r → line-of r ≡ printed (refuses 3) → ⊥

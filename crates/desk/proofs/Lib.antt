@@ -4,3 +4,6 @@ pub mod Decimals
 pub mod Numbers
 pub mod Lines
 pub mod Orders
+pub mod KindLine
+pub mod Buffers
+pub mod Texts

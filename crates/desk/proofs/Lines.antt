@@ -1,10 +1,10 @@
 -- What a line holds: what is written into zeros; and when that is the desk's line.
 use mathlib.Core.Path.{_≡_, _∙_}
 use mathlib.Core.List.{List, [], _∷_, _++_}
-use Prim.Native.Nat.{ℕ, zero, suc, _+_, _-_, _<_}
+use Prim.Native.Nat.{ℕ, zero, suc, _+_, _-_, _<_, _≤_}
 use native.Mathlib.Nat.{zero-add, sub-zero, zero-sub, suc-sub-suc}
 use native.Mathlib.Omega.{arith}
-use lib.ListN.{length, drop, set, replicate}
+use lib.ListN.{length, drop, set, replicate, length-append}
 use Rattle.rules.specs.Text.{line-feed}
 use Rattle.rules.specs.Says.{Says}
 use Rattle.rules.specs.Desk.{line-room, spaced, desk-says, desk-line, Lined}
@@ -44,3 +44,7 @@ unfolding desk-line
 formatted-lined input said r e f =
     let g : Formatted (desk-says input) r = rw e at f in
     record { bytes = g .bytes; len = g .len }
+
+-- the desk's line has as many bytes as it says
+pub lined-within : (input : List ℕ) (r : Line) → Lined input r → r .len ≤ length (r .bytes)
+lined-within input r h = rw (h .len, h .bytes, length-append) (omega arith)

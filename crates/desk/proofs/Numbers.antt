@@ -8,7 +8,7 @@ use lib.Seq.{take-suc}
 use Rattle.rules.specs.Text.{space, decimal}
 use Rattle.rules.specs.Desk.{spaced}
 use Rattle.desk.specs.Written.{Written}
-use Rattle.desk.proofs.Decimals.{decimal-one, decimal-more}
+use Rattle.demands.proofs.Digits.{decimal-one, decimal-more}
 use Rattle.desk.proofs.Written.{written-none, written-one, written-joined}
 
 -- a number below 10 is written as one byte

@@ -22,11 +22,11 @@ use Rattle.rules.specs.declared.counts.Counts.{Counts}
 use Rattle.words.specs.Stored.{decoded}
 use Rattle.netlist.proofs.Facts.{passed as fitting}
 use Rattle.product.proofs.Readings.{kind-known}
+use Rattle.checks.proofs.Checked.{neither, limit-small, four-times, row-later}
 use Rattle.judge.specs.Running.{Running, Finished}
 use Rattle.judge.specs.Deciding.{handed, Passed, Begun, SetOut, stop, Closing, last, Decided}
 use Rattle.judge.specs.declared.deciding.Outset.{Outset}
 use Rattle.judge.specs.declared.run.Ran.{Ran}
-use Rattle.judge.proofs.Checked.{neither, limit-small, four-times, row-later}
 use Rattle.judge.proofs.Going.{path}
 use Rattle.judge.proofs.Opened.{Opened, opened, decided-none, closing, decided-last}
 

@@ -30,8 +30,8 @@ use Rattle.demands.proofs.Absent.{Absent, false-absent}
 use Rattle.demands.proofs.StepShape.{run-shape}
 use Rattle.demands.proofs.TermLimit.{roomy-le}
 use Rattle.start.specs.Start.{Asked, Started, counted, within}
+use Rattle.ending.specs.Ending.{Evens, Ending}
 use Rattle.judge.specs.Running.{Running, Finished}
-use Rattle.judge.specs.Ending.{Evens, Ending}
 use Rattle.judge.specs.Deciding.{Block, Passed, Begun, Closing, Decided, last}
 use Rattle.judge.specs.declared.run.Ran.{Ran}
 use Rattle.judge.proofs.Held.{decoded-held, words-fit, running-decoded, Laid, laid}

@@ -19,7 +19,7 @@ use Rattle.rules.specs.declared.counts.Counts.{Counts}
 use Rattle.netlist.specs.Taken.{Sound}
 use Rattle.words.specs.Stored.{decoded}
 use Rattle.start.specs.Start.{Started}
-use Rattle.judge.specs.Ending.{Ending}
+use Rattle.ending.specs.Ending.{Ending}
 use Rattle.judge.specs.declared.deciding.Outset.{Outset}
 use Rattle.judge.specs.declared.run.Ran.{Ran}
 

@@ -1,8 +1,8 @@
 // What comes before the run, and after it.
-use crate::checks::Lent;
-use crate::checks::refused;
-use crate::ending::answer;
 use crate::run::Ran;
+use checks::Lent;
+use checks::refused;
+use ending::answer;
 use rules::answers::Answer;
 use rules::counts::Counts;
 use start::start;

@@ -1,7 +1,5 @@
-// The judge: its checks, the run over an order, the log and the answer.
-pub mod checks; // checks.rt: the refusals in the order of checks
+// The judge: what comes before the run, the run over an order, the log, and what comes after it.
 pub mod deciding; // deciding.rt: what comes before the run, and after it
-pub mod ending; // ending.rt: the answer by the last polynomial
 pub mod log; // log.rt: one record of the log
 pub mod run; // run.rt: the steps of an order, and the log
 pub mod turn; // turn.rt: one step

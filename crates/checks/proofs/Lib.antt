@@ -1,0 +1,2 @@
+-- The laws of the checks.
+pub mod Checked

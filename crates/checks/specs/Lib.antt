@@ -1,0 +1,2 @@
+-- The checks of judging.
+pub mod Checking

@@ -1,0 +1,2 @@
+-- What the answer by the last polynomial asks.
+pub mod Ending

@@ -148,7 +148,7 @@ pub record Laid (c : Counts) (table : List ℕ) (limit count : ℕ) (p : Polynom
 
 -- a normal polynomial with room, laid down in its words with zeros behind them, is one that a run goes on from
 pub laid : {c : Counts} {table : List ℕ} {limit count : ℕ} {p : Polynomial} {store scratch store′ scratch′ : List ℕ}
-    → Sound c table → limit ≤ most-terms → limit * term-width c ≤ length store → limit * term-width c ≤ length scratch
+    → Sound c table → limit ≤ most-terms → limit * term-width c ≤ length store → 4 * limit * term-width c ≤ length scratch
     → Below (2 ^ (c .m + 1)) p × Coefficients (2 ^ c .o) p → count ≡ length p → length p ≤ limit
     → store′ ≡ padded (length store) (polynomial-words (set-width c) p) → scratch′ ≡ replicate (length scratch) 0
     → Laid c table limit count p store scratch store′ scratch′

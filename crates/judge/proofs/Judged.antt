@@ -22,7 +22,7 @@ use Rattle.rules.specs.declared.counts.Counts.{Counts}
 use Rattle.words.specs.Stored.{decoded}
 use Rattle.netlist.proofs.Facts.{passed as fitting}
 use Rattle.product.proofs.Readings.{kind-known}
-use Rattle.checks.proofs.Checked.{neither, limit-small, four-times, row-later}
+use Rattle.checks.proofs.Checked.{neither, limit-small, row-later}
 use Rattle.judge.specs.Running.{Running, Finished}
 use Rattle.judge.specs.Deciding.{handed, Passed, Begun, SetOut, stop, Closing, last, Decided}
 use Rattle.judge.specs.declared.deciding.Outset.{Outset}
@@ -84,7 +84,7 @@ module _ (c : Counts) (table : List ℕ) (kind limit : ℕ) (order store scratch
           outputs = eqb-true (c .o) (outputs-of (kind-of kind) (width c)) (not-false _ (kinds .1));
           taken = limit-small limit (three .0);
           store-room = ltb-false (length store) (limit * term-width c) (words .0);
-          scratch-room = omega (arith, ltb-false (length scratch) (4 * limit * term-width c) (words .1), four-times limit (term-width c));
+          scratch-room = ltb-false (length scratch) (4 * limit * term-width c) (words .1);
         };
         short = steps-few (length order) (orders .0);
         gates-only = not-false (every (is-gate c) order) (orders .1);

@@ -44,7 +44,7 @@ pub record Block (c : Counts) (table : List ℕ) (kind limit : ℕ) (store scrat
   pub outputs : c .o ≡ outputs-of (kind-of kind) (width c)
   pub taken : limit ≤ most-terms
   pub store-room : limit * term-width c ≤ length store
-  pub scratch-room : limit * term-width c ≤ length scratch
+  pub scratch-room : 4 * limit * term-width c ≤ length scratch
 
 -- what the checks leave: such a block, an order of gates, and a log that is long enough
 pub record Passed (c : Counts) (table : List ℕ) (kind limit : ℕ) (order store scratch : List ℕ) (log : ℕ) : Type 0 where

@@ -20,7 +20,7 @@ pub record Running (c : Counts) (table : List ℕ) (limit count : ℕ) (p : Poly
   pub sound : Sound c table
   pub taken : limit ≤ most-terms
   pub store-room : limit * term-width c ≤ length store
-  pub scratch-room : limit * term-width c ≤ length scratch
+  pub scratch-room : 4 * limit * term-width c ≤ length scratch
   pub counted : count ≡ length p
   pub few : count ≤ limit
   pub falls : Below (2 ^ (c .m + 1)) p

@@ -1,25 +1,24 @@
 -- Laws of streams: their heads, their ends, the next term of one, and a head that is taken.
 use mathlib.Core.Path.{_≡_, refl, ap, sym, _∙_}
 use mathlib.Core.List.{List, [], _∷_}
-use mathlib.Core.Bool.{Bool, true, false, cond}
+use mathlib.Core.Bool.{Bool, true, false, not, cond, true≢false}
 use mathlib.Core.Logic.{⊎-elim}
 use Prim.Native.Nat.{ℕ, zero, suc, _+_, _-_, _*_, _%_, _^_, _<_, _≤_}
 use native.Mathlib.Nat.{add-zero, add-assoc, add-mul, one-mul, eq-or-lt-of-le, mod-add-mod, mul-le-mul-right}
 use native.Mathlib.Numerals.{add-one, add-one-le}
 use native.Mathlib.Omega.{arith}
 use lib.Bits.{bitXor}
-use lib.Dec.{ltb}
+use lib.Dec.{ltb, eqb}
 use lib.ListN.{length, getD, drop, set, drop-of-length-le}
 use lib.Seq.{drop-cons, getD-set-same, getD-set-other}
-use borrow.Author.Tests.{ltb-true, ltb-false, lt-ltb, le-ltb}
+use borrow.Author.Tests.{eq-eqb, ne-eqb, eqb-true, eqb-false, ltb-true, ltb-false, lt-ltb, le-ltb}
 use Rattle.rules.specs.Polynomial.{Polynomial, Below, keep}
 use Rattle.rules.proofs.Terms.{hit-add, hit-mod, coefficient-cons}
 use Rattle.rules.proofs.Gathered.{keep-some}
-use Rattle.words.specs.Numbers.{num, words-at, masked, order-by, order-of}
+use Rattle.words.specs.Numbers.{num, words-at, masked, order-of}
 use Rattle.words.specs.Stored.{decoded}
-use Rattle.words.specs.declared.sets.Order.{Order}
 use Rattle.words.specs.declared.sets.Order.the-variants.{Less, Same, More}
-use Rattle.words.proofs.Numbers.{length-words-at, words-from, num-masked}
+use Rattle.words.proofs.Numbers.{length-words-at, words-from, num-masked, read-order}
 use Rattle.words.proofs.Stored.{decoded-at, length-decoded, stride-in}
 use Rattle.poly.specs.Signs.{scale}
 use Rattle.poly.specs.Streams.{sign-of, weight, stream, rest, rank, mask-at, Masks, Next, Loaded, Took}
@@ -31,28 +30,30 @@ row-in j k w len h l =
     let m : (j + 1) * w ≤ k * w = mul-le-mul-right w (add-one-le h) in
     omega (arith, add-mul j 1 w, one-mul w)
 
--- what an order says of two numbers
-abbrev Said : ℕ → ℕ → Order → Type 0
-Said m n Less = m < n
-Said m n Same = m ≡ n
-Said m n More = n < m
+-- what a test of two numbers found: they differ
+pub different : (m n : ℕ) (b : Bool) → b ≡ eqb m n → not b ≡ true → m ≡ n → ⊥
+different m n true e h z = true≢false (sym h)
+different m n false e h z = eqb-false m n (sym e) z
 
--- the order of two numbers says what is so
-said : (m n : ℕ) → Said m n (order-of m n)
-unfolding order-of order-by
-said m n = go (ltb m n) (ltb n m) refl refl
-  where
-    go : (a b : Bool) → ltb m n ≡ a → ltb n m ≡ b → Said m n (order-by a b)
-    go true b e f = ltb-true m n e
-    go false true e f = ltb-true n m f
-    go false false e f = omega (arith, ltb-false m n e, ltb-false n m f)
+-- they do not
+pub alike : (m n : ℕ) (b : Bool) → b ≡ eqb m n → not b ≡ false → m ≡ n
+alike m n true e h = eqb-true m n (sym e)
+alike m n false e h = absurd (true≢false h)
 
--- the order, read back
-pub read-order : (m n : ℕ) (o : Order) → order-of m n ≡ o → Said m n o
-read-order m n o e = rw e at (said m n)
+-- the test of two numbers, by their order
+pub same-told : (m n : ℕ) → order-of m n ≡ Same → true ≡ eqb m n
+same-told m n e = sym (eq-eqb m n (read-order m n Same e))
+
+-- the first is larger
+pub more-told : (m n : ℕ) → order-of m n ≡ More → false ≡ eqb m n
+more-told m n e = sym (ne-eqb m n (λ z. omega (arith, read-order m n More e)))
+
+-- the second is
+pub less-told : (m n : ℕ) → order-of m n ≡ Less → false ≡ eqb m n
+less-told m n e = sym (ne-eqb m n (λ z. omega (arith, read-order m n Less e)))
 
 -- a term without a coefficient goes
-keep-none : (c s : ℕ) (p : Polynomial) → c ≡ 0 → keep c s p ≡ p
+pub keep-none : (c s : ℕ) (p : Polynomial) → c ≡ 0 → keep c s p ≡ p
 unfolding keep
 keep-none c s p h = rw h
 

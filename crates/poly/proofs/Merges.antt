@@ -1,14 +1,13 @@
 -- A turn of the merge.
 use mathlib.Core.Path.{_≡_, refl, ap, sym, _∙_}
-use mathlib.Core.List.{List, [], _∷_, _++_, append-nil, append-assoc}
+use mathlib.Core.List.{List, [], _∷_, _++_, append-nil}
 use mathlib.Core.Logic.{⊎-elim}
 use Prim.Native.Nat.{ℕ, suc, _+_, _-_, _*_, _%_, _^_, _<_, _≤_}
-use native.Mathlib.Nat.{zero-add, add-mul, one-mul, eq-or-lt-of-le, eq-zero-or-pos}
+use native.Mathlib.Nat.{zero-add, eq-or-lt-of-le}
 use native.Mathlib.Omega.{arith}
 use lib.Bits.{bitXor}
-use lib.ListN.{length, length-append, getD, take, drop}
+use lib.ListN.{length, getD, drop}
 use lib.Pow.{pow-pos}
-use lib.Seq.{drop-drop, drop-at, length-take-le}
 use Rattle.rules.specs.Each.{sum, joined}
 use Rattle.rules.specs.Polynomial.{Polynomial, coefficient-at, Below, Under, gather}
 use Rattle.rules.proofs.Indices.{sum-same}
@@ -16,11 +15,14 @@ use Rattle.rules.proofs.Terms.{weaken, coefficient-joined}
 use Rattle.words.specs.Numbers.{num, words-at, masked}
 use Rattle.words.specs.Stored.{decoded}
 use Rattle.words.proofs.Numbers.{length-masked}
-use Rattle.words.proofs.Stored.{decoded-more, length-decoded, stride-le}
-use Rattle.poly.specs.Streams.{weight, stream, streams, rest, rank, mask-at, Lows, Masks, Next, Loaded, Swept, Emitted, Merged, Behind}
+use Rattle.words.proofs.Stored.{length-decoded, stride-le}
+use Rattle.weave.specs.Merging.{Lows, floor, Merging}
+use Rattle.weave.specs.Written.{Emitted, Behind, Gathered}
+use Rattle.poly.specs.Streams.{weight, stream, streams, rest, rank, mask-at, Masks, Next, Loaded, Swept}
 use Rattle.poly.specs.declared.streams.Gate.{Gate}
 use Rattle.poly.proofs.Flow.{stream-some, stream-end, stream-pass, rank-end, rank-live, key-num, bounds}
-use Rattle.poly.proofs.Fronts.{floor, Merging, under-joined, sum-less, merge-front, merge-skip, merge-take, joined-none}
+use Rattle.weave.proofs.Fronts.{under-joined, sum-less, merge-front, joined-none}
+use Rattle.weave.proofs.Growing.{Grown, grown, behind-more, Room, room-more}
 
 -- no term, no coefficient
 no-coefficient : (u n : ℕ) → coefficient-at [] u + n ≡ n
@@ -32,52 +34,11 @@ no-gather : (m : ℕ) (out : Polynomial) → out ++ gather m [] ≡ out
 unfolding gather
 no-gather m out = append-nil out
 
--- the term (c, s) was written behind o terms, unless c is 0 or there are `limit` already
-pub record Grown (o limit c s : ℕ) (out out′ : Polynomial) (r : ℕ) : Type 0 where
-  pub skip : c ≡ 0 → (r ≡ o) × (out′ ≡ out)
-  pub full : 0 < c → o ≡ limit → r ≡ limit + 1
-  pub put : 0 < c → o < limit → (r ≡ o + 1) × (out′ ≡ out ++ ((c, s) ∷ []))
-
--- what was written, as terms
-pub grown : (w o limit c r : ℕ) (set d d′ : List ℕ) → o * (w + 1) ≤ length d → length set ≡ w → Emitted w o limit c set d d′ r
-    → Grown o limit c (num set) (decoded w o d) (decoded w r d′) r
-grown w o limit c r set d d′ h l e = record {
-  skip = λ z. (e .skip z .0, rw (e .skip z .0, e .skip z .1));
-  full = λ z q. e .full z q .0;
-  put = λ z q. (e .put z q .0, rw (e .put z q .0) (decoded-more w o c d d′ set (drop (o * (w + 1) + (w + 1)) d) h l (e .put z q .1)));
-}
-
--- nothing is written yet
-pub behind-none : (w limit : ℕ) (d : List ℕ) → Behind w limit 0 d d
-behind-none w limit d = record { few = λ h. refl; many = λ h. refl }
-
--- one term more changes no word behind it
-pub behind-more : (w o limit c r : ℕ) (set d₀ d d′ : List ℕ) → o ≤ limit → o * (w + 1) ≤ length d → length set ≡ w → Behind w limit o d₀ d → Emitted w o limit c set d d′ r → Behind w limit r d₀ d′
-behind-more w o limit c r set d₀ d d′ lo h l b e = ⊎-elim
-    (λ (z : c ≡ 0). rw (e .skip z .0, e .skip z .1) b)
-    (λ (z : 0 < c). ⊎-elim
-    (λ (q : o ≡ limit). record {
-      few = λ k. absurd (omega (arith, e .full z q .0));
-      many = λ k. rw (e .full z q .1, ← q) (b .few lo);
-    })
-    (λ (q : o < limit).
-    let a : (o + 1) * (w + 1) ≡ o * (w + 1) + (w + 1) = rw (add-mul o 1 (w + 1), one-mul (w + 1)) in
-    let f : drop (o * (w + 1) + (w + 1)) d ≡ drop (o * (w + 1) + (w + 1)) d₀ =
-    sym (drop-drop (w + 1) (o * (w + 1)) d) ∙ ap (λ (x : List ℕ). drop (w + 1) x) (b .few lo) ∙ drop-drop (w + 1) (o * (w + 1)) d₀ in
-    record {
-      few = λ k. rw (e .put z q .0, e .put z q .1, a, ← append-assoc (take (o * (w + 1)) d) (c ∷ set) (drop (o * (w + 1) + (w + 1)) d)) (drop-at (take (o * (w + 1)) d ++ (c ∷ set)) (drop (o * (w + 1) + (w + 1)) d) (o * (w + 1) + (w + 1)) (simp length-append (omega (arith, length-take-le (o * (w + 1)) d h))) ∙ f);
-      many = λ k. absurd (omega (arith, e .put z q .0));
-    })
-    (eq-or-lt-of-le lo))
-    (eq-zero-or-pos c)
-
 -- the state between turns
 pub record Going (g : Gate) (signs : List ℕ) (mask : ℕ → ℕ) (p : Polynomial) (hi k limit o : ℕ) (out : Polynomial) (at : List ℕ) : Type 0 where
   pub count : length out ≡ o
   pub loaded : (i : ℕ) → i < k → Loaded g signs p at i
-  pub most : o ≤ limit + 1
-  pub going : o ≤ limit → Merging (2 ^ g .l) hi k (streams g signs mask k p) out (rest g signs mask p at)
-  pub full : limit < o → limit < length (gather (2 ^ g .l) (streams g signs mask k p))
+  pub room : Room (2 ^ g .l) hi k limit (streams g signs mask k p) out (rest g signs mask p at) o
 
 module _ (g : Gate) (signs : List ℕ) (mask : ℕ → ℕ) (p : Polynomial) (hi k : ℕ) (fall : Lows hi k (λ j. stream g signs mask j p)) where
   -- what is left of a stream lies below its rank
@@ -114,87 +75,59 @@ module _ (g : Gate) (signs : List ℕ) (mask : ℕ → ℕ) (p : Polynomial) (hi
       record {
         count = refl;
         loaded = λ i l. (h i l .high, h i l .some);
-        most = omega arith;
-        going = λ d. record {
-          falls = tt;
-          coefs = tt;
-          lows = λ j l. rw (← same j l) (fall j l);
-          sums = λ u. ap (λ (x : ℕ). x % 2 ^ g .l) (no-coefficient u _ ∙ sum-same k (λ j. coefficient-at (stream g signs mask j (drop (getD at j 0) p)) u) (λ j. coefficient-at (stream g signs mask j p) u) (λ j l. ap (λ (q : Polynomial). coefficient-at q u) (sym (same j l))) ∙ sym (coefficient-joined k (λ j. stream g signs mask j p) u));
+        room = record {
+          most = omega arith;
+          going = λ d. record {
+            falls = tt;
+            coefs = tt;
+            lows = λ j l. rw (← same j l) (fall j l);
+            sums = λ u. ap (λ (x : ℕ). x % 2 ^ g .l) (no-coefficient u _ ∙ sum-same k (λ j. coefficient-at (stream g signs mask j (drop (getD at j 0) p)) u) (λ j. coefficient-at (stream g signs mask j p) u) (λ j l. ap (λ (q : Polynomial). coefficient-at q u) (sym (same j l))) ∙ sym (coefficient-joined k (λ j. stream g signs mask j p) u));
+          };
+          full = λ d. absurd (omega arith);
         };
-        full = λ d. absurd (omega arith);
       }
 
   -- every stream is at its end: what is written is the result
   pub go-end : (limit o b : ℕ) (out : Polynomial) (at : List ℕ) → o ≤ limit → Going g signs mask p hi k limit o out at → ((i : ℕ) → i < k → rank mask p at i ≤ rank mask p at b) → length p ≤ getD at b 0
-      → Merged (2 ^ g .l) limit (streams g signs mask k p) out o
+      → Gathered limit (gather (2 ^ g .l) (streams g signs mask k p)) out o
   go-end limit o b out at l h best e =
       let z : rank mask p at b ≡ 0 = rank-end mask p at b e in
-      let m : Merging (2 ^ g .l) hi k (streams g signs mask k p) out (rest g signs mask p at) = h .going l in
+      let m : Merging (2 ^ g .l) hi k (streams g signs mask k p) out (rest g signs mask p at) = h .room .going l in
       let f : gather (2 ^ g .l) (streams g signs mask k p) ≡ out ++ gather (2 ^ g .l) (joined k (rest g signs mask p at)) = merge-front (2 ^ g .l) hi k (streams g signs mask k p) (pow-pos (g .l)) under out (rest g signs mask p at) m in
       let q : joined k (rest g signs mask p at) ≡ [] = joined-none k (rest g signs mask p at) (λ i d. weaken (rank mask p at i) 0 (rest g signs mask p at i) (omega (arith, best i d)) (rest-rank at i (floor hi out) (h .loaded i d) (m .lows i d))) in
       record {
-        most = h .most;
+        most = h .room .most;
         fits = λ d. sym (f ∙ ap (λ (x : Polynomial). out ++ gather (2 ^ g .l) x) q ∙ no-gather (2 ^ g .l) out);
         full = λ d. absurd (omega arith);
       }
 
   -- there is no room
-  pub go-full : (limit o : ℕ) (out : Polynomial) (at : List ℕ) → limit < o → Going g signs mask p hi k limit o out at → Merged (2 ^ g .l) limit (streams g signs mask k p) out o
+  pub go-full : (limit o : ℕ) (out : Polynomial) (at : List ℕ) → limit < o → Going g signs mask p hi k limit o out at → Gathered limit (gather (2 ^ g .l) (streams g signs mask k p)) out o
   go-full limit o out at l h = record {
-    most = h .most;
+    most = h .room .most;
     fits = λ d. absurd (omega arith);
-    full = h .full;
+    full = h .room .full;
   }
 
   -- what the sweep asks
   pub go-high : (limit o b s : ℕ) (out : Polynomial) (at : List ℕ) → o ≤ limit → Going g signs mask p hi k limit o out at → ((i : ℕ) → i < k → rank mask p at i ≤ rank mask p at b) → rank mask p at b ≡ suc s
       → (i : ℕ) → i < k → Below (suc s) (rest g signs mask p at i)
   go-high limit o b s out at l h best e i d =
-      weaken (rank mask p at i) (suc s) (rest g signs mask p at i) (omega (arith, best i d)) (rest-rank at i (floor hi out) (h .loaded i d) (h .going l .lows i d))
+      weaken (rank mask p at i) (suc s) (rest g signs mask p at i) (omega (arith, best i d)) (rest-rank at i (floor hi out) (h .loaded i d) (h .room .going l .lows i d))
 
   module _ (limit o o′ b s c : ℕ) (out out′ : Polynomial) (at at′ : List ℕ) (l : o ≤ limit) (h : Going g signs mask p hi k limit o out at) (lb : b < k) (e : rank mask p at b ≡ suc s)
       (sw : Swept g signs mask p s k at at′ c) (em : Grown o limit c s out out′ o′) (len : length out′ ≡ o′) where
     -- the set of the turn is below all that is written
     low : s < floor hi out
-    low = head-low at b (floor hi out) s (h .loaded b lb) e (h .going l .lows b lb)
-
-    -- the state once its term is written
-    after : 0 < c → Merging (2 ^ g .l) hi k (streams g signs mask k p) (out ++ ((c, s) ∷ [])) (rest g signs mask p at′)
-    after z = merge-take (2 ^ g .l) hi k (streams g signs mask k p) (pow-pos (g .l)) under out (rest g signs mask p at) (rest g signs mask p at′) (h .going l) c s low (sw .lows) (sw .sums) z (sw .small)
+    low = head-low at b (floor hi out) s (h .loaded b lb) e (h .room .going l .lows b lb)
 
     -- after the turn
     pub go-on : Going g signs mask p hi k limit o′ out′ at′
-    go-on = ⊎-elim
-        (λ (z : c ≡ 0).
-        let r : (o′ ≡ o) × (out′ ≡ out) = em .skip z in
-        record {
-          count = len;
-          loaded = sw .loaded;
-          most = omega (arith, r .0);
-          going = λ d. rw (r .1) (merge-skip (2 ^ g .l) hi k (streams g signs mask k p) (pow-pos (g .l)) under out (rest g signs mask p at) (rest g signs mask p at′) (h .going l) c s low (sw .lows) (sw .sums) z);
-          full = λ d. absurd (omega (arith, r .0));
-        })
-        (λ (z : 0 < c). ⊎-elim
-        (λ (q : o ≡ limit).
-        let r : o′ ≡ limit + 1 = em .full z q in
-        record {
-          count = len;
-          loaded = sw .loaded;
-          most = omega arith;
-          going = λ d. absurd (omega arith);
-          full = λ d. rw (merge-front (2 ^ g .l) hi k (streams g signs mask k p) (pow-pos (g .l)) under (out ++ ((c, s) ∷ [])) (rest g signs mask p at′) (after z)) (simp length-append (omega (arith, h .count)));
-        })
-        (λ (q : o < limit).
-        let r : (o′ ≡ o + 1) × (out′ ≡ out ++ ((c, s) ∷ [])) = em .put z q in
-        record {
-          count = len;
-          loaded = sw .loaded;
-          most = omega (arith, r .0);
-          going = λ d. rw (r .1) (after z);
-          full = λ d. absurd (omega (arith, r .0));
-        })
-        (eq-or-lt-of-le l))
-        (eq-zero-or-pos c)
+    go-on = record {
+      count = len;
+      loaded = sw .loaded;
+      room = room-more (2 ^ g .l) hi k limit (streams g signs mask k p) (pow-pos (g .l)) under out out′ (rest g signs mask p at) (rest g signs mask p at′) o o′ c s (h .room .going l) (h .count) l low (sw .lows) (sw .sums) (sw .small) em;
+    }
 
     -- and it ends: what is left to pass in all streams
     pub go-less : getD at b 0 < length p → sum k (λ i. length p - getD at′ i 0) < sum k (λ i. length p - getD at i 0)

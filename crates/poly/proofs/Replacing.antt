@@ -1,12 +1,12 @@
 -- What a step makes of a term, stream by stream: the streams of a gate hold of every term what replacing makes of it.
 use mathlib.Core.Path.{_≡_, refl, ap, sym, _∙_}
-use mathlib.Core.Bool.{false, true≢false}
 use mathlib.Core.List.{[], _∷_, append-nil}
 use mathlib.Core.Logic.{⊎-elim}
 use Prim.Native.Nat.{ℕ, zero, suc, _+_, _-_, _/_, _%_, _^_, _<_, _≤_}
 use native.Mathlib.Nat.{add-zero, zero-add, zero-mul, one-mul, mod-add-mod, add-mod-mod, mod-self, zero-mod, add-mod}
 use native.Mathlib.Omega.{arith}
-use lib.Bits.{bitXor, xor-zero-r}
+use lib.Bits.{bitXor}
+use lib.ListN.{length}
 use Rattle.rules.specs.Each.{sum}
 use Rattle.rules.specs.Netlist.{variable, inverted}
 use Rattle.rules.specs.Values.{bit}
@@ -14,8 +14,8 @@ use Rattle.rules.specs.Polynomial.{Term, Polynomial, hit, coefficient-at, Below
 use Rattle.rules.specs.Steps.{where-held, replaced, all-replaced}
 use Rattle.rules.proofs.Terms.{hit-add, hit-zero, hit-mod, coefficient-append}
 use Rattle.rules.proofs.Gathered.{unique, under-of, gather-same}
-use Rattle.poly.specs.Signs.{scale, sign-product, factor, if-held, if-absent, sign, mask-of, Alike}
-use Rattle.poly.specs.Stepping.{occurs-in}
+use Rattle.weave.specs.Seeking.{Free}
+use Rattle.poly.specs.Signs.{scale, sign-product, factor, if-held, sign, mask-of, Alike}
 use Rattle.poly.proofs.Flipped.{bit-two, flip-off, flip-on, flip-other, flip-same, xor-assoc}
 
 module _ (m x n u : ℕ) where
@@ -32,11 +32,6 @@ with-in s x e = rw (e, zero-mul, add-zero)
 with-out : (s x : ℕ) → bit s x ≡ 0 → with-variable s x ≡ bitXor s (2 ^ x)
 unfolding with-variable
 with-out s x e = rw (flip-on s x e, e, one-mul)
-
--- the coefficient of one term
-single : (t : Term) (u : ℕ) → coefficient-at (t ∷ []) u ≡ hit u (t .1) (t .0)
-unfolding coefficient-at
-single t u = add-zero _
 
 -- c and m - c cancel
 hit-whole : (m c s u : ℕ) → c ≤ m → (hit u s c + hit u s (m - c)) % m ≡ 0
@@ -74,11 +69,6 @@ unfolding times-literal parts coefficient-at
 times-parts m x u [] h = refl
 times-parts m x u (t ∷ p) h =
     rw (coefficient-append (times-variable m (variable x) (inverted x) t) (times-literal m x p) u, ← mod-add-mod, one-literal m (variable x) (inverted x) (t .0) (t .1) u (h .0), mod-add-mod, ← add-mod-mod, times-parts m x u p (h .1), add-mod-mod)
-
--- the sign 0 leaves nothing
-scale-zero : (m c : ℕ) → scale m 0 c ≡ 0
-unfolding scale
-scale-zero m c = refl
 
 -- a product with the sign 0
 sign-product-none : (m a c : ℕ) → scale m (sign-product a 0) c ≡ 0
@@ -181,55 +171,38 @@ by-parts : (m x y u c s : ℕ) → c ≤ m
 by-parts m x y u c s h =
     rw (one-times m y (c, s)) (times-parts m x u (times-variable m (variable y) (inverted y) (c, s)) (small-literal m (variable y) (inverted y) (c, s) h))
 
--- a sum of five, written out
-five : (f : ℕ → ℕ) → sum 5 f ≡ 0 + f 0 + f 1 + f 2 + f 3 + f 4
+-- a sum of four, written out
+four : (f : ℕ → ℕ) → sum 4 f ≡ 0 + f 0 + f 1 + f 2 + f 3
 unfolding sum
-five f = refl
+four f = refl
 
--- a term (c, s), the gate v of the literals x and y, and the coefficient at u
-module _ (m v x y u c s : ℕ) (h : c ≤ m) (nx : variable x ≡ v → ⊥) (ny : variable y ≡ v → ⊥) (d : variable x ≡ variable y → variable y ≡ 0) where
+-- a term (c, s) that holds v, the gate v of the literals x and y, and the coefficient at u
+module _ (m v x y u c s : ℕ) (h : c ≤ m) (e : bit s v ≡ 1) (nx : variable x ≡ v → ⊥) (ny : variable y ≡ v → ⊥) (d : variable x ≡ variable y → variable y ≡ 0) where
   -- what stream j has of it
   flow : ℕ → ℕ
-  flow j = hit u (bitXor s (mask-of v (variable x) (variable y) j)) (scale m (sign x y (bit s v) (bit s (variable x)) (bit s (variable y)) j) c)
+  flow j = hit u (bitXor s (mask-of v (variable x) (variable y) j)) (scale m (sign x y (bit s (variable x)) (bit s (variable y)) j) c)
 
-  -- without v it stays
-  stays : bit s v ≡ 0 → 0 + flow 0 + flow 1 + flow 2 + flow 3 + flow 4 ≡ coefficient-at (replaced m v x y (c, s)) u
-  unfolding flow sign if-held if-absent scale mask-of replaced where-held
-  stays e = rw (e, hit-zero, hit-zero, hit-zero, hit-zero, xor-zero-r, single (c, s) u) (zero-add _)
-
-  -- with v it moves
-  moves : bit s v ≡ 1 → (0 + flow 0 + flow 1 + flow 2 + flow 3 + flow 4) % m ≡ coefficient-at (replaced m v x y (c, s)) u % m
-  unfolding flow sign if-held if-absent mask-of replaced where-held quad duo
-  moves e =
+  -- it moves
+  moves : (0 + flow 0 + flow 1 + flow 2 + flow 3) % m ≡ coefficient-at (replaced m v x y (c, s)) u % m
+  unfolding flow sign mask-of replaced where-held quad duo
+  moves =
       let o : s - 2 ^ v ≡ bitXor s (2 ^ v) = omega (arith, flip-off s v e) in
       let q : coefficient-at (times-literal m x (times-literal m y ((c, bitXor s (2 ^ v)) ∷ []))) u % m ≡ quad m (variable x) (inverted x) (variable y) (inverted y) u c (bitXor s (2 ^ v)) % m =
       by-parts m x y u c (bitXor s (2 ^ v)) h ∙ second m (variable x) (inverted x) (variable y) (inverted y) u c (bitXor s (2 ^ v)) h d in
-      let z : scale m 0 c ≡ 0 = scale-zero m c in
-      let w : (a b e f : ℕ) → 0 + a + b + e + f + 0 ≡ a + b + (e + f) = λ a b e f. omega arith in
-      rw (e, o, q, flip-other s v (variable x) nx, flip-other s v (variable y) ny, ← xor-assoc s (2 ^ v) (2 ^ variable x), ← xor-assoc s (2 ^ v) (2 ^ variable y), ← xor-assoc s (bitXor (2 ^ v) (2 ^ variable y)) (2 ^ variable x), ← xor-assoc s (2 ^ v) (2 ^ variable y), z, hit-zero, w)
+      let w : (a b e f : ℕ) → 0 + a + b + e + f ≡ a + b + (e + f) = λ a b e f. omega arith in
+      rw (e, o, q, flip-other s v (variable x) nx, flip-other s v (variable y) ny, ← xor-assoc s (2 ^ v) (2 ^ variable x), ← xor-assoc s (2 ^ v) (2 ^ variable y), ← xor-assoc s (bitXor (2 ^ v) (2 ^ variable y)) (2 ^ variable x), ← xor-assoc s (2 ^ v) (2 ^ variable y), w)
 
-  -- the five streams hold of it what the step makes of it
-  pub term-sum : sum 5 (λ j. hit u (bitXor s (mask-of v (variable x) (variable y) j)) (scale m (sign x y (bit s v) (bit s (variable x)) (bit s (variable y)) j) c)) % m ≡ coefficient-at (replaced m v x y (c, s)) u % m
+  -- the four streams hold of it what the step makes of it
+  pub term-sum : sum 4 (λ j. hit u (bitXor s (mask-of v (variable x) (variable y) j)) (scale m (sign x y (bit s (variable x)) (bit s (variable y)) j) c)) % m ≡ coefficient-at (replaced m v x y (c, s)) u % m
   unfolding flow
-  term-sum =
-      ap (λ (z : ℕ). z % m) (five flow)
-      ∙ ⊎-elim (λ (e : bit s v ≡ 0). ap (λ (z : ℕ). z % m) (stays e)) (λ (e : bit s v ≡ 1). moves e) (bit-two s v)
+  term-sum = ap (λ (z : ℕ). z % m) (four flow) ∙ moves
 
--- a stream that has a term moves its set by a fixed amount: what goes out of it
-unfoldable pub out-of : ℕ → ℕ → ℕ
-out-of v zero = 2 ^ v
-out-of v (suc zero) = 2 ^ v
-out-of v (suc (suc zero)) = 2 ^ v
-out-of v (suc (suc (suc zero))) = 2 ^ v
-out-of v (suc (suc (suc (suc j)))) = 0
-
--- and what comes into it
+-- a stream that has a term moves its set by a fixed amount: v goes out of it, and this comes into it
 unfoldable pub in-of : ℕ → ℕ → ℕ → ℕ
 in-of x y zero = 0
 in-of x y (suc zero) = 2 ^ x
 in-of x y (suc (suc zero)) = 2 ^ y
-in-of x y (suc (suc (suc zero))) = 2 ^ y + 2 ^ x
-in-of x y (suc (suc (suc (suc j)))) = 0
+in-of x y (suc (suc (suc j))) = 2 ^ y + 2 ^ x
 
 -- a variable that is there is not put in
 factor-in : (x n r : ℕ) → r ≡ 1 → factor x n r 1 ≡ 0
@@ -273,9 +246,9 @@ module _ (v x y s : ℕ) (nx : variable x ≡ v → ⊥) (ny : variable y ≡ v 
   lacks z n h = ⊎-elim (λ (e : bit s z ≡ 0). e) (λ (e : bit s z ≡ 1). absurd (h (factor-in z n (bit s z) e))) (bit-two s z)
 
   -- a stream moves every set that it has by the same number
-  pub shift : (j : ℕ) → (sign x y (bit s v) (bit s (variable x)) (bit s (variable y)) j ≡ 0 → ⊥)
-      → bitXor s (mask-of v (variable x) (variable y) j) + out-of v j ≡ s + in-of (variable x) (variable y) j
-  unfolding sign mask-of out-of in-of
+  pub shift : (j : ℕ) → (if-held (bit s v) (sign x y (bit s (variable x)) (bit s (variable y)) j) ≡ 0 → ⊥)
+      → bitXor s (mask-of v (variable x) (variable y) j) + 2 ^ v ≡ s + in-of (variable x) (variable y) j
+  unfolding sign mask-of in-of
   shift zero h = rw add-zero (has (held-some (bit s v) _ h .0))
   shift (suc zero) h =
       let g = held-some (bit s v) _ h in
@@ -289,7 +262,7 @@ module _ (v x y s : ℕ) (nx : variable x ≡ v → ⊥) (ny : variable y ≡ v 
       let o : bitXor s (2 ^ v) + 2 ^ v ≡ s = has (g .0) in
       let i : bitXor (bitXor s (2 ^ v)) (2 ^ variable y) ≡ bitXor s (2 ^ v) + 2 ^ variable y = flip-on (bitXor s (2 ^ v)) (variable y) (flip-other s v (variable y) ny ∙ a) in
       rw (← xor-assoc s (2 ^ v) (2 ^ variable y)) (omega arith)
-  shift (suc (suc (suc zero))) h =
+  shift (suc (suc (suc j))) h =
       let g = held-some (bit s v) _ h in
       let fx : factor (variable x) (inverted x) (bit s (variable x)) 1 ≡ 0 → ⊥ = λ e. g .1 (rw e (zero-product _)) in
       let fy : factor (variable y) (inverted y) (bit s (variable y)) 1 ≡ 0 → ⊥ = λ e. g .1 (rw e (product-zero _)) in
@@ -300,7 +273,6 @@ module _ (v x y s : ℕ) (nx : variable x ≡ v → ⊥) (ny : variable y ≡ v 
       let i : bitXor (bitXor s (2 ^ v)) (2 ^ variable y) ≡ bitXor s (2 ^ v) + 2 ^ variable y = flip-on (bitXor s (2 ^ v)) (variable y) (flip-other s v (variable y) ny ∙ b) in
       let l : bitXor (bitXor (bitXor s (2 ^ v)) (2 ^ variable y)) (2 ^ variable x) ≡ bitXor (bitXor s (2 ^ v)) (2 ^ variable y) + 2 ^ variable x = flip-on (bitXor (bitXor s (2 ^ v)) (2 ^ variable y)) (variable x) (flip-other (bitXor s (2 ^ v)) (variable y) (variable x) ne ∙ flip-other s v (variable x) nx ∙ a) in
       rw (← xor-assoc s (bitXor (2 ^ v) (2 ^ variable y)) (2 ^ variable x), ← xor-assoc s (2 ^ v) (2 ^ variable y)) (omega arith)
-  shift (suc (suc (suc (suc j)))) h = rw (xor-zero-r)
 
 -- a set with a variable put in has it
 bit-with : (s x : ℕ) → bit (with-variable s x) x ≡ 1
@@ -383,15 +355,12 @@ pub step-alike : (m v x y a b : ℕ) → 0 < m → Alike m x y a b → (p : Poly
 step-alike m v x y a b h f p s = gather-same m (all-replaced m v x y p) (all-replaced m v a b p) h (λ u. replaced-alike m v x y a b f p u s)
 
 -- a term without v stays
-replaced-absent : (m v x y : ℕ) (p : Polynomial) → occurs-in v p ≡ false → all-replaced m v x y p ≡ p
-unfolding all-replaced replaced where-held occurs-in
+replaced-absent : (m v x y : ℕ) (p : Polynomial) → Free v p 0 (length p) → all-replaced m v x y p ≡ p
+unfolding all-replaced replaced where-held
 replaced-absent m v x y [] h = refl
-replaced-absent m v x y (t ∷ p) h = ⊎-elim
-    (λ (e : bit (t .1) v ≡ 0). rw (e, replaced-absent m v x y p (rw e at h)))
-    (λ (e : bit (t .1) v ≡ 1). absurd (true≢false (rw e at h)))
-    (bit-two (t .1) v)
+replaced-absent m v x y (t ∷ p) h = rw (h 0 (omega arith) (omega arith), replaced-absent m v x y p (λ i a b. h (suc i) (omega arith) (omega arith)))
 
 -- where v does not occur nothing changes
-pub step-absent : (m v x y b : ℕ) (p : Polynomial) → 0 < m → Below b p → Coefficients m p → occurs-in v p ≡ false → gather m (all-replaced m v x y p) ≡ p
+pub step-absent : (m v x y b : ℕ) (p : Polynomial) → 0 < m → Below b p → Coefficients m p → Free v p 0 (length p) → gather m (all-replaced m v x y p) ≡ p
 step-absent m v x y b p h l c a =
     rw (replaced-absent m v x y p a) (sym (unique m b p p h l c (under-of b b p (omega arith) l) (λ u. refl)))

@@ -1,64 +1,28 @@
 -- Laws of the step in the store: the look for v, and what is moved and cleared.
 use mathlib.Core.Path.{_≡_, refl, ap, sym, _∙_}
-use mathlib.Core.Bool.{Bool, true, false, not, cond}
-use mathlib.Core.List.{List, _∷_, _++_}
-use Prim.Native.Nat.{ℕ, suc, _+_, _-_, _*_, _/_, _^_, _<_, _≤_}
-use native.Mathlib.Numerals.{add-one}
+use mathlib.Core.Bool.{Bool, true, false, cond}
+use mathlib.Core.List.{List, _++_}
+use Prim.Native.Nat.{ℕ, _+_, _-_, _*_, _/_, _^_, _<_, _≤_}
 use native.Mathlib.Omega.{arith}
 use lib.Dec.{ltb, leb}
-use lib.ListN.{length, getD, take, drop, replicate, replicate-append-replicate, drop-of-length-le}
+use lib.ListN.{length, getD, take, drop, replicate, replicate-append-replicate}
 use lib.Pow.{pow-pos}
-use lib.Seq.{drop-cons, drop-drop, take-at, drop-at, length-take-le}
-use borrow.Author.Tests.{eq-eqb, ne-eqb, ltb-true, ltb-false, le-leb, lt-leb}
+use lib.Seq.{drop-drop, take-at, drop-at, length-take-le}
+use borrow.Author.Tests.{ltb-true, ltb-false, le-leb, lt-leb}
 use Rattle.rules.specs.Judging.{polynomial-words, padded}
 use Rattle.rules.specs.Netlist.{variable}
 use Rattle.rules.specs.Polynomial.{Polynomial, gather}
 use Rattle.rules.specs.Steps.{all-replaced}
-use Rattle.rules.specs.Values.{bit}
-use Rattle.words.specs.Stored.{term-at, decoded}
-use Rattle.words.specs.Numbers.{num, words-at}
-use Rattle.words.proofs.Stored.{decoded-at, length-decoded, stride-le}
+use Rattle.words.specs.Stored.{decoded}
+use Rattle.words.proofs.Stored.{length-decoded, stride-le}
 use Rattle.words.proofs.Encoded.{words-decoded, zeros-behind}
 use Rattle.poly.specs.Signs.{Apart}
-use Rattle.poly.specs.Streams.{Emitted}
-use Rattle.poly.specs.Stepping.{occurs-in, Gathered, Prepared, Ready, Stepped}
+use Rattle.weave.specs.Seeking.{Last}
+use Rattle.weave.specs.Written.{Gathered}
+use Rattle.poly.specs.Stepping.{Prepared, Ready, Stepped}
 use Rattle.poly.specs.declared.gates.Pair.{Pair}
 use Rattle.poly.proofs.Replacing.{step-alike, step-absent}
 use Rattle.poly.proofs.Tables.{small-of, drop-zeros}
-
--- what was written, by what was found: no coefficient
-pub emit-skip : (w o limit c : ℕ) (set d : List ℕ) → c ≡ 0 → Emitted w o limit c set d d o
-emit-skip w o limit c set d e = record { skip = λ z. (refl, refl); full = λ z. absurd (omega arith); put = λ z. absurd (omega arith) }
-
--- no room
-pub emit-full : (w o limit c : ℕ) (set d : List ℕ) → (c ≡ 0 → ⊥) → o ≡ limit → Emitted w o limit c set d d (limit + 1)
-emit-full w o limit c set d n e = record { skip = λ z. absurd (n z); full = λ z y. (refl, refl); put = λ z y. absurd (omega arith) }
-
--- a term
-pub emit-put : (w o limit c : ℕ) (set d d′ : List ℕ) → (c ≡ 0 → ⊥) → (o ≡ limit → ⊥)
-    → d′ ≡ take (o * (w + 1)) d ++ ((c ∷ set) ++ drop (o * (w + 1) + (w + 1)) d) → Emitted w o limit c set d d′ (o + 1)
-emit-put w o limit c set d d′ n m e = record { skip = λ z. absurd (n z); full = λ z y. absurd (m y); put = λ z y. (refl, e) }
-
--- the look for v at the i-th term of n; x is what was found there
-module _ (w n i v x : ℕ) (s : List ℕ) (h : i < n) (e : x ≡ bit (num (words-at s (i * (w + 1) + 1) w)) v) where
-  -- the list from that term on
-  at-term : drop i (decoded w n s) ≡ term-at w s (i * (w + 1)) ∷ drop (suc i) (decoded w n s)
-  at-term = drop-cons (decoded w n s) i (0, 0) (omega (arith, length-decoded w n s)) ∙ rw (decoded-at w n i s h)
-
-  -- v is there
-  pub occurs-here : x ≡ 1 → true ≡ occurs-in v (drop i (decoded w n s))
-  unfolding occurs-in
-  occurs-here z = rw (at-term, eq-eqb (bit (num (words-at s (i * (w + 1) + 1) w)) v) 1 (sym e ∙ z))
-
-  -- v is not there
-  pub occurs-later : (x ≡ 1 → ⊥) → occurs-in v (drop i (decoded w n s)) ≡ occurs-in v (drop (i + 1) (decoded w n s))
-  unfolding occurs-in
-  occurs-later z = rw (add-one i, at-term, ne-eqb (bit (num (words-at s (i * (w + 1) + 1) w)) v) 1 (λ q. z (e ∙ q)))
-
--- no term is left
-pub occurs-none : (w n i v : ℕ) (s : List ℕ) → n ≤ i → false ≡ occurs-in v (drop i (decoded w n s))
-unfolding occurs-in
-occurs-none w n i v s h = rw (drop-of-length-le (decoded w n s) {i = i} (omega (arith, length-decoded w n s)))
 
 -- the larger of two numbers
 pub larger-than : (a b u : ℕ) → u ≡ cond (ltb a b) b a → (a ≤ u) × (b ≤ u) × ((c : ℕ) → a ≤ c → b ≤ c → u ≤ c)
@@ -111,10 +75,10 @@ module _ (w limit r : ℕ) (q : Polynomial) (store scratch made store′ scratch
       record { counted = rw t (omega (arith, g .most)); stored = rw t e; cleared = z }
 
 -- v does not occur: the step changes nothing
-pub stepped-same : (w l v x y limit held : ℕ) (store scratch : List ℕ) → Ready w l v x y limit held store scratch → occurs-in v (decoded w held store) ≡ false
+pub stepped-same : (w l v x y limit held : ℕ) (store scratch : List ℕ) → Ready w l v x y limit held store scratch → (end : ℕ) → Last v (decoded w held store) end → end ≡ 0
     → Stepped w limit (gather (2 ^ l) (all-replaced (2 ^ l) v x y (decoded w held store))) store scratch held store scratch
-stepped-same w l v x y limit held store scratch h o =
-    let e : gather (2 ^ l) (all-replaced (2 ^ l) v x y (decoded w held store)) ≡ decoded w held store = step-absent (2 ^ l) v x y (2 ^ (64 * w)) (decoded w held store) (pow-pos l) (h .falls) (h .coefficients) o in
+stepped-same w l v x y limit held store scratch h end o z =
+    let e : gather (2 ^ l) (all-replaced (2 ^ l) v x y (decoded w held store)) ≡ decoded w held store = step-absent (2 ^ l) v x y (2 ^ (64 * w)) (decoded w held store) (pow-pos l) (h .falls) (h .coefficients) (rw z at (o .free)) in
     let t : leb (length (decoded w held store)) limit ≡ true = le-leb _ limit (omega (arith, length-decoded w held store, h .held-most)) in
     record {
       counted = rw (e, t) (sym (length-decoded w held store));
@@ -123,13 +87,13 @@ stepped-same w l v x y limit held store scratch h o =
     }
 
 -- the literals brought apart
-module _ (w l v x y limit held : ℕ) (store scratch : List ℕ) (h : Ready w l v x y limit held store scratch) (p : Pair) (a : Apart x y p) where
+module _ (w l v x y limit held end : ℕ) (store scratch : List ℕ) (h : Ready w l v x y limit held store scratch) (o : Last v (decoded w held store) end) (p : Pair) (a : Apart x y p) where
   -- the terms held lie inside the store
   room : held * (w + 1) ≤ length store
   room = stride-le held limit w (length store) (h .held-most) (h .store-room)
 
   -- what the step of their gate asks
-  pub to-replace : Prepared store held w (record { v = v; x = p .x / 2; y = p .y / 2; l = l }) (p .x) (p .y) scratch limit
+  pub to-replace : Prepared store held w (record { v = v; x = p .x / 2; y = p .y / 2; l = l }) (p .x) (p .y) end scratch limit
   unfolding variable
   to-replace = record {
     fit = record {
@@ -147,6 +111,8 @@ module _ (w l v x y limit held : ℕ) (store scratch : List ℕ) (h : Ready w l 
       falls = h .falls;
       coefficients = h .coefficients;
     };
+    few = h .held-most;
+    last = o;
     store-room = h .store-room;
     scratch-room = h .scratch-room;
     behind = rw (length-decoded w held store) at (zeros-behind w store (decoded w held store) (h .kept));
@@ -156,8 +122,3 @@ module _ (w l v x y limit held : ℕ) (store scratch : List ℕ) (h : Ready w l 
   -- it is the same step
   pub same-step : gather (2 ^ l) (all-replaced (2 ^ l) v (p .x) (p .y) (decoded w held store)) ≡ gather (2 ^ l) (all-replaced (2 ^ l) v x y (decoded w held store))
   same-step = sym (step-alike (2 ^ l) v x y (p .x) (p .y) (pow-pos l) (a .alike (2 ^ l)) (decoded w held store) (small-of (2 ^ l) (decoded w held store) (h .coefficients)))
-
--- a test whose contrary holds
-pub not-so : (b : Bool) → not b ≡ true → b ≡ false
-not-so true h = sym h
-not-so false h = refl

@@ -12,7 +12,7 @@ use Rattle.rules.specs.Polynomial.{Polynomial, hit, coefficient-at, Below}
 use Rattle.rules.proofs.Terms.{hit-zero, weaken}
 use Rattle.poly.specs.Streams.{stream, rest, rank, Loaded, Took, Swept}
 use Rattle.poly.specs.declared.streams.Gate.{Gate}
-use Rattle.poly.proofs.Fronts.{sum-swap}
+use Rattle.weave.proofs.Fronts.{sum-swap}
 
 -- what is left of a stream depends on its own place alone
 pub rest-at : (g : Gate) (signs : List ℕ) (mask : ℕ → ℕ) (p : Polynomial) (at at′ : List ℕ) (i : ℕ) → getD at′ i 0 ≡ getD at i 0 → rest g signs mask p at′ i ≡ rest g signs mask p at i

@@ -8,20 +8,24 @@ use native.Mathlib.Numerals.{add-one-le}
 use native.Mathlib.Omega.{arith}
 use lib.Bits.{bitXor, xor-lt}
 use lib.ListN.{length, getD, take, drop, set, replicate}
-use lib.Pow.{pow-pos, pow-lt}
+use lib.Pow.{pow-lt}
 use lib.Seq.{getD-set-same, getD-set-other, drop-set-add, drop-set-lt, take-set-le}
 use Rattle.rules.specs.Netlist.{variable, inverted}
-use Rattle.rules.specs.Polynomial.{Polynomial, Coefficients, gather}
+use Rattle.rules.specs.Each.{joined}
+use Rattle.rules.specs.Polynomial.{Polynomial, Below, Coefficients, gather}
 use Rattle.rules.specs.Steps.{all-replaced}
-use Rattle.rules.proofs.Gathered.{under-of}
+use Rattle.rules.proofs.Gathered.{under-of, gather-below}
 use Rattle.words.specs.Numbers.{num, words-at}
 use Rattle.words.specs.Stored.{decoded}
 use Rattle.words.proofs.Numbers.{turned-set}
 use Rattle.words.proofs.Stored.{decoded-at, length-decoded}
-use Rattle.poly.specs.Signs.{factor, sign-product, if-held, sign, sign-at, mask-of, Apart}
-use Rattle.poly.specs.Streams.{mask-at, turned-by, Lows, Held, Turned, Masked, Tables, Merged, stream, streams}
-use Rattle.poly.specs.Stepping.{Fit, Gathered}
+use Rattle.weave.specs.Merging.{Lows}
+use Rattle.weave.specs.Written.{Gathered}
+use Rattle.poly.specs.Signs.{factor, sign-product, sign, sign-at, mask-of, Apart}
+use Rattle.poly.specs.Streams.{mask-at, turned-by, Held, Turned, Masked, Tables, stream, streams}
+use Rattle.poly.specs.Stepping.{holding, Fit}
 use Rattle.poly.specs.declared.streams.Gate.{Gate}
+use Rattle.weave.proofs.Fronts.{under-joined}
 use Rattle.poly.proofs.Joins.{step-streams, stream-falls}
 use Rattle.poly.proofs.Replacing.{Small, alike-same, alike-against}
 
@@ -39,15 +43,15 @@ pub apart-same : (x y : ℕ) → (variable x ≡ 0 → ⊥) → x ≡ y → Apar
 unfolding variable
 apart-same x y h e = record { x-low = omega arith; y-low = omega arith; apart = λ z. refl; alike = λ m. alike-same m x y h e }
 
--- the sign of one of the first four streams: the product of the literals' signs, where v is held
-pub sign-held : (x y rv rx ry j : ℕ) → j < 4
-    → sign x y rv rx ry j ≡ if-held rv (sign-product (factor (variable x) (inverted x) rx (j % 2)) (factor (variable y) (inverted y) ry (j / 2)))
+-- the sign of a stream is the product of the literals' signs
+pub sign-product-at : (x y rx ry j : ℕ) → j < 4
+    → sign x y rx ry j ≡ sign-product (factor (variable x) (inverted x) rx (j % 2)) (factor (variable y) (inverted y) ry (j / 2))
 unfolding sign
-sign-held x y rv rx ry zero h = refl
-sign-held x y rv rx ry (suc zero) h = refl
-sign-held x y rv rx ry (suc (suc zero)) h = refl
-sign-held x y rv rx ry (suc (suc (suc zero))) h = refl
-sign-held x y rv rx ry (suc (suc (suc (suc j)))) h = absurd (omega arith)
+sign-product-at x y rx ry zero h = refl
+sign-product-at x y rx ry (suc zero) h = refl
+sign-product-at x y rx ry (suc (suc zero)) h = refl
+sign-product-at x y rx ry (suc (suc (suc zero))) h = refl
+sign-product-at x y rx ry (suc (suc (suc (suc j)))) h = absurd (omega arith)
 
 -- one more entry of the table
 pub table-more : (x y i r : ℕ) (l : List ℕ) → i < length l → r ≡ sign-at x y i → ((j : ℕ) → j < i → getD l j 0 ≡ sign-at x y j)
@@ -118,7 +122,7 @@ mask-made w v x y j m0 m1 m2 m3 l z t1 t2 t3 = record {
 
 -- the masks made so far, and zeros
 abbrev pub Making : ℕ → ℕ → ℕ → ℕ → ℕ → List ℕ → Type 0
-Making w v x y j m = ((i : ℕ) → i < j → mask-at w m i ≡ mask-of v x y i) × ((i : ℕ) → j ≤ i → i < 5 → mask-at w m i ≡ 0)
+Making w v x y j m = ((i : ℕ) → i < j → mask-at w m i ≡ mask-of v x y i) × ((i : ℕ) → j ≤ i → i < 4 → mask-at w m i ≡ 0)
 
 -- one more mask
 pub making-more : (w v x y j : ℕ) (m m′ : List ℕ) → Making w v x y j m → Masked w v x y j m m′ → Making w v x y (j + 1) m′
@@ -126,11 +130,6 @@ making-more w v x y j m m′ h t = (
   (λ i l. ⊎-elim (λ (e : i ≡ j). rw e (t .here)) (λ (d : i < j). t .there i (λ e. omega arith) ∙ h .0 i d) (eq-or-lt-of-le {n = i} {m = j} (omega arith))),
   (λ i a b. t .there i (λ e. omega arith) ∙ h .1 i (omega arith) b),
 )
-
--- all masks; the last is zeros
-pub making-all : (w v x y : ℕ) (m : List ℕ) → Making w v x y 4 m → (j : ℕ) → j < 5 → mask-at w m j ≡ mask-of v x y j
-unfolding mask-of
-making-all w v x y m h j l = ⊎-elim (λ (e : j ≡ 4). rw e (h .1 4 (omega arith) (omega arith))) (λ (d : j < 4). h .0 j d) (eq-or-lt-of-le {n = j} {m = 4} (omega arith))
 
 -- words of zeros are 0
 num-zeros : (n : ℕ) → num (replicate n 0) ≡ 0
@@ -172,12 +171,11 @@ unfolding mask-of
 mask-lt e v x y zero hv hx hy = pow-lt {i = v} {j = e} hv
 mask-lt e v x y (suc zero) hv hx hy = xor-lt e (2 ^ v) (2 ^ x) (pow-lt {i = v} {j = e} hv) (pow-lt {i = x} {j = e} hx)
 mask-lt e v x y (suc (suc zero)) hv hx hy = xor-lt e (2 ^ v) (2 ^ y) (pow-lt {i = v} {j = e} hv) (pow-lt {i = y} {j = e} hy)
-mask-lt e v x y (suc (suc (suc zero))) hv hx hy = xor-lt e (bitXor (2 ^ v) (2 ^ y)) (2 ^ x) (xor-lt e (2 ^ v) (2 ^ y) (pow-lt {i = v} {j = e} hv) (pow-lt {i = y} {j = e} hy)) (pow-lt {i = x} {j = e} hx)
-mask-lt e v x y (suc (suc (suc (suc j)))) hv hx hy = pow-pos e
+mask-lt e v x y (suc (suc (suc j))) hv hx hy = xor-lt e (bitXor (2 ^ v) (2 ^ y)) (2 ^ x) (xor-lt e (2 ^ v) (2 ^ y) (pow-lt {i = v} {j = e} hv) (pow-lt {i = y} {j = e} hy)) (pow-lt {i = x} {j = e} hx)
 
 -- the tables of a gate that fits
-module _ (store : List ℕ) (n w : ℕ) (g : Gate) (x y : ℕ) (r : Fit store n w g x y) (signs masks : List ℕ) (ls : length signs ≡ 40)
-    (hs : (i : ℕ) → i < 40 → getD signs i 0 ≡ sign-at x y i) (hm : (j : ℕ) → j < 5 → mask-at w masks j ≡ mask-of (g .v) (g .x) (g .y) j) where
+module _ (store : List ℕ) (n w : ℕ) (g : Gate) (x y : ℕ) (r : Fit store n w g x y) (signs masks : List ℕ) (ls : length signs ≡ 16)
+    (hs : (i : ℕ) → i < 16 → getD signs i 0 ≡ sign-at x y i) (hm : (j : ℕ) → j < 4 → mask-at w masks j ≡ mask-of (g .v) (g .x) (g .y) j) where
   -- what the streams ask
   pub held : Held store n w g signs
   held = record {
@@ -201,26 +199,31 @@ module _ (store : List ℕ) (n w : ℕ) (g : Gate) (x y : ℕ) (r : Fit store n 
     x-off = r .x-off;
     y-off = r .y-off;
     apart = r .apart;
-    signed = λ rv rx ry j a b c d.
-        let e1 : ((rv + 2 * rx + 4 * ry) * 5 + j) / 5 % 2 ≡ rv = omega arith in
-        let e2 : ((rv + 2 * rx + 4 * ry) * 5 + j) / 10 % 2 ≡ rx = omega arith in
-        let e3 : ((rv + 2 * rx + 4 * ry) * 5 + j) / 20 ≡ ry = omega arith in
-        let e4 : ((rv + 2 * rx + 4 * ry) * 5 + j) % 5 ≡ j = omega arith in
-        hs ((rv + 2 * rx + 4 * ry) * 5 + j) (omega arith) ∙ rw (e1, e2, e3, e4);
+    signed = λ rx ry j a b c.
+        let e1 : ((rx + 2 * ry) * 4 + j) / 4 % 2 ≡ rx = omega arith in
+        let e2 : ((rx + 2 * ry) * 4 + j) / 8 ≡ ry = omega arith in
+        let e3 : ((rx + 2 * ry) * 4 + j) % 4 ≡ j = omega arith in
+        hs ((rx + 2 * ry) * 4 + j) (omega arith) ∙ rw (e1, e2, e3);
     masked = hm;
   }
 
   -- every stream falls
-  pub lows : Lows (2 ^ (64 * w)) 5 (λ j. stream g signs (mask-at w masks) j (decoded w n store))
+  pub lows : Lows (2 ^ (64 * w)) 4 (λ j. stream g signs (mask-at w masks) j (decoded w n store))
   lows j l =
       stream-falls g x y signs (mask-at w masks) tables (64 * w) j l (decoded w n store) (2 ^ (64 * w)) (r .falls)
       (under-of (2 ^ (64 * w)) (2 ^ (64 * w)) (decoded w n store) (omega arith) (r .falls))
       (rw (hm j l) (mask-lt (64 * w) (g .v) (g .x) (g .y) j (r .v-in) (r .x-in) (r .y-in)))
 
-  -- the streams gathered are the step
-  pub gathered : (limit o : ℕ) (out : Polynomial) → Merged (2 ^ g .l) limit (streams g signs (mask-at w masks) 5 (decoded w n store)) out o
-      → Gathered limit (gather (2 ^ g .l) (all-replaced (2 ^ g .l) (g .v) x y (decoded w n store))) out o
-  gathered limit o out h =
-      let e : gather (2 ^ g .l) (streams g signs (mask-at w masks) 5 (decoded w n store)) ≡ gather (2 ^ g .l) (all-replaced (2 ^ g .l) (g .v) x y (decoded w n store)) =
-      step-streams g x y signs (mask-at w masks) tables (decoded w n store) (small-of (2 ^ g .l) (decoded w n store) (r .coefficients)) in
-      record { most = h .most; fits = λ l. h .fits l ∙ e; full = λ l. rw e at (h .full l) }
+  -- the streams gathered are what becomes of the terms that hold v
+  same : gather (2 ^ g .l) (streams g signs (mask-at w masks) 4 (decoded w n store)) ≡ gather (2 ^ g .l) (all-replaced (2 ^ g .l) (g .v) x y (holding (g .v) (decoded w n store)))
+  same = step-streams g x y signs (mask-at w masks) tables (decoded w n store) (small-of (2 ^ g .l) (decoded w n store) (r .coefficients))
+
+  module _ (limit o : ℕ) (out : Polynomial) (h : Gathered limit (gather (2 ^ g .l) (streams g signs (mask-at w masks) 4 (decoded w n store))) out o) where
+    -- so what the merge made is that
+    pub gathered : Gathered limit (gather (2 ^ g .l) (all-replaced (2 ^ g .l) (g .v) x y (holding (g .v) (decoded w n store)))) out o
+    gathered = record { most = h .most; fits = λ l. h .fits l ∙ same; full = λ l. rw same at (h .full l) }
+
+    -- and it falls
+    pub falls : o ≤ limit → Below (2 ^ (64 * w)) out
+    unfolding streams
+    falls l = rw (h .fits l) (gather-below (2 ^ g .l) (2 ^ (64 * w)) (joined 4 (λ j. stream g signs (mask-at w masks) j (decoded w n store))) (under-joined (2 ^ (64 * w)) 4 (λ j. stream g signs (mask-at w masks) j (decoded w n store)) lows))

@@ -1,6 +1,6 @@
 -- A gate as coefficients over its variables. A term that holds v goes into a stream for each set of the gate's variables: those
 -- are put in, and the coefficient is taken as it is (1), negated (2) or not at all (0). That sign depends on which of the gate's
--- variables the term holds already, since x·x is x. The last stream takes the terms without v as they are.
+-- variables the term holds already, since x·x is x.
 use mathlib.Core.Path.{_≡_}
 use mathlib.Core.List.{[], _∷_}
 use Prim.Native.Nat.{ℕ, zero, suc, _-_, _/_, _%_, _^_, _≤_}
@@ -42,30 +42,23 @@ unfoldable pub if-held : ℕ → ℕ → ℕ
 if-held zero a = 0
 if-held (suc r) a = a
 
--- as it is where the term does not hold v, else not at all
-unfoldable pub if-absent : ℕ → ℕ
-if-absent zero = 1
-if-absent (suc r) = 0
+-- the sign of stream j for the product of the literals x and y, and a term with v that holds x, y or not
+unfoldable pub sign : ℕ → ℕ → ℕ → ℕ → ℕ → ℕ
+sign x y rx ry zero = sign-product (factor (variable x) (inverted x) rx 0) (factor (variable y) (inverted y) ry 0)
+sign x y rx ry (suc zero) = sign-product (factor (variable x) (inverted x) rx 1) (factor (variable y) (inverted y) ry 0)
+sign x y rx ry (suc (suc zero)) = sign-product (factor (variable x) (inverted x) rx 0) (factor (variable y) (inverted y) ry 1)
+sign x y rx ry (suc (suc (suc j))) = sign-product (factor (variable x) (inverted x) rx 1) (factor (variable y) (inverted y) ry 1)
 
--- the sign of stream j for the product of the literals x and y, and a term that holds v, x, y or not
-unfoldable pub sign : ℕ → ℕ → ℕ → ℕ → ℕ → ℕ → ℕ
-sign x y rv rx ry zero = if-held rv (sign-product (factor (variable x) (inverted x) rx 0) (factor (variable y) (inverted y) ry 0))
-sign x y rv rx ry (suc zero) = if-held rv (sign-product (factor (variable x) (inverted x) rx 1) (factor (variable y) (inverted y) ry 0))
-sign x y rv rx ry (suc (suc zero)) = if-held rv (sign-product (factor (variable x) (inverted x) rx 0) (factor (variable y) (inverted y) ry 1))
-sign x y rv rx ry (suc (suc (suc zero))) = if-held rv (sign-product (factor (variable x) (inverted x) rx 1) (factor (variable y) (inverted y) ry 1))
-sign x y rv rx ry (suc (suc (suc (suc j)))) = if-absent rv
-
--- the sign at place i of the table: a row for each choice of v, x, y, and the streams in it
+-- the sign at place i of the table: a row for each choice of x, y, and the streams in it
 unfoldable pub sign-at : ℕ → ℕ → ℕ → ℕ
-sign-at x y i = sign x y (i / 5 % 2) (i / 10 % 2) (i / 20) (i % 5)
+sign-at x y i = sign x y (i / 4 % 2) (i / 8) (i % 4)
 
 -- what stream j changes in a set
 unfoldable pub mask-of : ℕ → ℕ → ℕ → ℕ → ℕ
 mask-of v x y zero = 2 ^ v
 mask-of v x y (suc zero) = bitXor (2 ^ v) (2 ^ x)
 mask-of v x y (suc (suc zero)) = bitXor (2 ^ v) (2 ^ y)
-mask-of v x y (suc (suc (suc zero))) = bitXor (bitXor (2 ^ v) (2 ^ y)) (2 ^ x)
-mask-of v x y (suc (suc (suc (suc j)))) = 0
+mask-of v x y (suc (suc (suc j))) = bitXor (bitXor (2 ^ v) (2 ^ y)) (2 ^ x)
 
 -- two pairs of literals make the same of every term
 abbrev pub Alike : ℕ → ℕ → ℕ → ℕ → ℕ → Type 0

@@ -1,6 +1,6 @@
 -- A step in lent words: what it asks, and what it leaves.
 use mathlib.Core.Path.{_≡_}
-use mathlib.Core.Bool.{Bool, true, false, cond}
+use mathlib.Core.Bool.{cond}
 use mathlib.Core.List.{List, [], _∷_}
 use Prim.Native.Nat.{ℕ, _+_, _-_, _*_, _^_, _<_, _≤_}
 use lib.Dec.{eqb, leb}
@@ -10,12 +10,13 @@ use Rattle.rules.specs.Netlist.{variable}
 use Rattle.rules.specs.Polynomial.{Polynomial, Below, Coefficients}
 use Rattle.rules.specs.Values.{bit}
 use Rattle.words.specs.Stored.{decoded}
+use Rattle.weave.specs.Seeking.{Last}
 use Rattle.poly.specs.declared.streams.Gate.{Gate}
 
--- v is in some term
-unfoldable pub occurs-in : ℕ → Polynomial → Bool
-occurs-in v [] = false
-occurs-in v (t ∷ p) = cond (eqb (bit (t .1) v) 1) true (occurs-in v p)
+-- the terms that hold v
+unfoldable pub holding : ℕ → Polynomial → Polynomial
+holding v [] = []
+holding v (t ∷ p) = cond (eqb (bit (t .1) v) 1) (t ∷ holding v p) (holding v p)
 
 -- a polynomial of n terms is held, and the literals x and y are over the gate's variables: two, neither of them v, or 0
 pub record Fit (store : List ℕ) (n w : ℕ) (g : Gate) (x y : ℕ) : Type 0 where
@@ -33,22 +34,19 @@ pub record Fit (store : List ℕ) (n w : ℕ) (g : Gate) (x y : ℕ) : Type 0 wh
   pub falls : Below (2 ^ (64 * w)) (decoded w n store)
   pub coefficients : Coefficients (2 ^ g .l) (decoded w n store)
 
--- the polynomial q if it has at most `limit` terms; limit + 1 if not
-pub record Gathered (limit : ℕ) (q out : Polynomial) (r : ℕ) : Type 0 where
-  pub most : r ≤ limit + 1
-  pub fits : r ≤ limit → out ≡ q
-  pub full : limit < r → limit < length q
-
--- and there is room for `limit` terms in store and scratch, with zeros in both wherever no term is
-pub record Prepared (store : List ℕ) (n w : ℕ) (g : Gate) (x y : ℕ) (scratch : List ℕ) (limit : ℕ) : Type 0 where
+-- and no term from `end` on holds the gate's variable; there is room for `limit` terms in the store, and for four times as many in
+-- scratch, with zeros in both wherever no term is
+pub record Prepared (store : List ℕ) (n w : ℕ) (g : Gate) (x y end : ℕ) (scratch : List ℕ) (limit : ℕ) : Type 0 where
   pub fit : Fit store n w g x y
+  pub few : n ≤ limit
+  pub last : Last (g .v) (decoded w n store) end
   pub store-room : limit * (w + 1) ≤ length store
-  pub scratch-room : limit * (w + 1) ≤ length scratch
+  pub scratch-room : 4 * limit * (w + 1) ≤ length scratch
   pub behind : drop (n * (w + 1)) store ≡ replicate (length store - n * (w + 1)) 0
   pub clean : scratch ≡ replicate (length scratch) 0
 
--- what a step asks: a polynomial of `held` terms over the variables below 64 w, coefficients of l bits, in a store and scratch
--- with room for `limit` terms and zeros wherever no term is; a gate that reads lower variables
+-- what a step asks: a polynomial of `held` terms over the variables below 64 w, coefficients of l bits, in a store
+-- with room for `limit` terms and scratch for four times as many, with zeros wherever no term is; a gate that reads lower variables
 pub record Ready (w l v x y limit held : ℕ) (store scratch : List ℕ) : Type 0 where
   pub narrow : w ≤ 16
   pub l-high : l ≤ 64
@@ -57,7 +55,7 @@ pub record Ready (w l v x y limit held : ℕ) (store scratch : List ℕ) : Type 
   pub y-low : variable y < v
   pub held-most : held ≤ limit
   pub store-room : limit * (w + 1) ≤ length store
-  pub scratch-room : limit * (w + 1) ≤ length scratch
+  pub scratch-room : 4 * limit * (w + 1) ≤ length scratch
   pub falls : Below (2 ^ (64 * w)) (decoded w held store)
   pub coefficients : Coefficients (2 ^ l) (decoded w held store)
   pub kept : store ≡ padded (length store) (polynomial-words w (decoded w held store))

@@ -1,27 +1,28 @@
 -- The streams of a step: the weight of a term in a stream, and its set under the stream's mask. A term is in a stream exactly when
 -- its weight there is not 0.
 use mathlib.Core.Path.{_≡_}
-use mathlib.Core.List.{List, [], _∷_, _++_}
+use mathlib.Core.List.{List, [], _∷_}
 use mathlib.Core.Bool.{cond}
 use Prim.Native.Nat.{ℕ, zero, suc, _+_, _*_, _%_, _^_, _<_, _≤_}
 use lib.Dec.{ltb}
 use lib.Bits.{bitXor}
-use lib.ListN.{length, getD, take, drop}
+use lib.ListN.{length, getD, drop}
 use Rattle.rules.specs.Each.{sum, joined}
 use Rattle.rules.specs.Values.{bit}
-use Rattle.rules.specs.Polynomial.{Term, Polynomial, Below, coefficient-at, hit, keep, gather}
+use Rattle.rules.specs.Polynomial.{Term, Polynomial, Below, coefficient-at, hit, keep}
 use Rattle.words.specs.Numbers.{num, words-at}
+use Rattle.weave.specs.Merging.{Lows}
 use Rattle.rules.specs.Netlist.{variable}
-use Rattle.poly.specs.Signs.{scale, sign, mask-of}
+use Rattle.poly.specs.Signs.{scale, if-held, sign, mask-of}
 use Rattle.poly.specs.declared.streams.Gate.{Gate}
 
--- which of v, x, y a set has
+-- which of x, y a set has
 unfoldable pub row : Gate → ℕ → ℕ
-row g s = bit s (g .v) + 2 * bit s (g .x) + 4 * bit s (g .y)
+row g s = bit s (g .x) + 2 * bit s (g .y)
 
--- the sign of a set in stream j
+-- the sign of a set in stream j: none where it does not hold v
 unfoldable pub sign-of : Gate → List ℕ → ℕ → ℕ → ℕ
-sign-of g signs j s = getD signs (row g s * 5 + j) 0
+sign-of g signs j s = if-held (bit s (g .v)) (getD signs (row g s * 4 + j) 0)
 
 -- the weight of a term in stream j
 unfoldable pub weight : Gate → List ℕ → ℕ → Term → ℕ
@@ -44,10 +45,6 @@ rest g signs mask p at j = stream g signs mask j (drop (getD at j 0) p)
 unfoldable pub streams : Gate → List ℕ → (ℕ → ℕ) → ℕ → Polynomial → Polynomial
 streams g signs mask k p = joined k (λ j. stream g signs mask j p)
 
--- each of the first k lists falls below b
-abbrev pub Lows : ℕ → ℕ → (ℕ → Polynomial) → Type 0
-Lows b k q = (j : ℕ) → j < k → Below b (q j)
-
 -- n terms of coefficients from 1 to 2^l - 1 are held, and the gate is in range
 pub record Held (store : List ℕ) (n w : ℕ) (g : Gate) (signs : List ℕ) : Type 0 where
   pub room : n * (w + 1) ≤ length store
@@ -56,7 +53,7 @@ pub record Held (store : List ℕ) (n w : ℕ) (g : Gate) (signs : List ℕ) : T
   pub x-in : g .x < 64 * w
   pub y-in : g .y < 64 * w
   pub l-high : g .l ≤ 64
-  pub table : length signs ≡ 40
+  pub table : length signs ≡ 16
   pub some : (i : ℕ) → i < n → 1 ≤ getD store (i * (w + 1)) 0
   pub small : (i : ℕ) → i < n → getD store (i * (w + 1)) 0 < 2 ^ g .l
 
@@ -101,23 +98,6 @@ pub record Swept (g : Gate) (signs : List ℕ) (mask : ℕ → ℕ) (p : Polynom
   pub grows : (i : ℕ) → i < k → getD at i 0 ≤ getD at′ i 0
   pub moved : (i : ℕ) → i < k → rank mask p at i ≡ suc s → getD at i 0 < getD at′ i 0
 
--- the term of c and the set's words was written as the o-th, unless c is 0 or there are `limit` already
-pub record Emitted (w o limit c : ℕ) (set d d′ : List ℕ) (r : ℕ) : Type 0 where
-  pub skip : c ≡ 0 → (r ≡ o) × (d′ ≡ d)
-  pub full : 0 < c → o ≡ limit → (r ≡ limit + 1) × (d′ ≡ d)
-  pub put : 0 < c → o < limit → (r ≡ o + 1) × (d′ ≡ take (o * (w + 1)) d ++ ((c ∷ set) ++ drop (o * (w + 1) + (w + 1)) d))
-
--- the streams gathered, if they fit; limit + 1 if they do not
-pub record Merged (m limit : ℕ) (all out : Polynomial) (r : ℕ) : Type 0 where
-  pub most : r ≤ limit + 1
-  pub fits : r ≤ limit → out ≡ gather m all
-  pub full : limit < r → limit < length (gather m all)
-
--- only the words of the r terms written changed, or of `limit` terms where r is more
-pub record Behind (w limit r : ℕ) (d d′ : List ℕ) : Type 0 where
-  pub few : r ≤ limit → drop (r * (w + 1)) d′ ≡ drop (r * (w + 1)) d
-  pub many : limit < r → drop (limit * (w + 1)) d′ ≡ drop (limit * (w + 1)) d
-
 -- a set with v turned in it, where d is not 0
 unfoldable pub turned-by : ℕ → ℕ → ℕ → ℕ
 turned-by zero s v = s
@@ -140,5 +120,5 @@ pub record Tables (g : Gate) (x y : ℕ) (signs : List ℕ) (mask : ℕ → ℕ)
   pub x-off : g .x ≡ g .v → ⊥
   pub y-off : g .y ≡ g .v → ⊥
   pub apart : g .x ≡ g .y → g .y ≡ 0
-  pub signed : (rv rx ry j : ℕ) → rv < 2 → rx < 2 → ry < 2 → j < 5 → getD signs ((rv + 2 * rx + 4 * ry) * 5 + j) 0 ≡ sign x y rv rx ry j
-  pub masked : (j : ℕ) → j < 5 → mask j ≡ mask-of (g .v) (g .x) (g .y) j
+  pub signed : (rx ry j : ℕ) → rx < 2 → ry < 2 → j < 4 → getD signs ((rx + 2 * ry) * 4 + j) 0 ≡ sign x y rx ry j
+  pub masked : (j : ℕ) → j < 4 → mask j ≡ mask-of (g .v) (g .x) (g .y) j

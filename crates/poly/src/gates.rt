@@ -85,19 +85,9 @@ fn product(a: u8, b: u8) -> u8
 fn sign(x: u32, y: u32, i: usize) -> u8
     ensures { λ s. ⌜ s ≡ sign-at x y i ⌝ }
 {
-    let j = i % 5;
-    let held = i / 5 % 2;
-    if j == 4 {
-        if held == 0 {
-            return 1;
-        }
-        return 0;
-    }
-    if held == 0 {
-        return 0;
-    }
-    let a = factor(x, i / 10 % 2, j % 2);
-    let b = factor(y, i / 20, j / 2);
+    let j = i % 4;
+    let a = factor(x, i / 4 % 2, j % 2);
+    let b = factor(y, i / 8, j / 2);
     product(a, b)
 }
 
@@ -133,10 +123,10 @@ fn mask(masks: &mut [u64], j: usize, w: usize, v: usize, x: usize, y: usize)
     turn_mask(masks, j, w, x, j % 2);
 }
 
-// The masks of gate v over the variables x and y; the last stream changes nothing.
+// The masks of gate v over the variables x and y.
 pub fn mask_table(masks: &mut [u64], w: usize, v: usize, x: usize, y: usize)
-    requires { ⌜ (5 * w ≤ length (now masks)) × (v < 64 * w) × (x < 64 * w) × (y < 64 * w) × ((j : ℕ) → j < 5 → mask-at w (now masks) j ≡ 0) ⌝ }
-    ensures { λ r. ⌜ ((j : ℕ) → j < 5 → mask-at w (now (masks .exit)) j ≡ mask-of v x y j) ⌝ }
+    requires { ⌜ (4 * w ≤ length (now masks)) × (v < 64 * w) × (x < 64 * w) × (y < 64 * w) × ((j : ℕ) → j < 4 → mask-at w (now masks) j ≡ 0) ⌝ }
+    ensures { λ r. ⌜ ((j : ℕ) → j < 4 → mask-at w (now (masks .exit)) j ≡ mask-of v x y j) ⌝ }
 {
     let mut j = 0;
     while j < 4 {

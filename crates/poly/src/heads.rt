@@ -2,7 +2,7 @@
 ghost use mathlib.Core.Path.{_≡_};
 ghost use mathlib.Core.Bool.{cond};
 ghost use Prim.Native.Nat.{ℕ, suc, _+_, _*_, _%_, _^_, _<_, _≤_};
-ghost use lib.Dec.{ltb};
+ghost use lib.Dec.{ltb, eqb};
 ghost use lib.ListN.{length};
 ghost use Rattle.rules.specs.Polynomial.{Below};
 ghost use Rattle.words.specs.Numbers.{num, words-at, masked};
@@ -55,7 +55,7 @@ pub fn best(store: &[u64], n: usize, w: usize, masks: &[u64], at: &[usize]) -> u
     ensures { λ r. ⌜ (r < length (now (at .entry))) × ((i : ℕ) → i < length (now (at .entry)) → rank (mask-at w (now (masks .entry))) (decoded w n (now (store .entry))) (now (at .entry)) i ≤ rank (mask-at w (now (masks .entry))) (decoded w n (now (store .entry))) (now (at .entry)) r) ⌝ }
 {
     let mut b = 0;
-    let mut j = 0;
+    let mut j = 1;
     while j < at.len() {
         b = better(store, n, w, masks, at, j, b);
         j += 1;
@@ -77,6 +77,23 @@ fn added(c: u64, k: u8, x: u64, l: u32) -> u64
     words::coefficients::difference(c, x, l)
 }
 
+// Whether the set at i under the mask at a is the one at h under the mask at b; the best head is compared with itself in every turn.
+fn same(store: &[u64], i: usize, h: usize, masks: &[u64], a: usize, b: usize, w: usize) -> bool
+    requires { ⌜ (i + w ≤ length (now store)) × (h + w ≤ length (now store)) × (a + w ≤ length (now masks)) × (b + w ≤ length (now masks)) ⌝ }
+    ensures { λ r. ⌜ r ≡ eqb (num (masked (words-at (now (store .entry)) i w) (words-at (now (masks .entry)) a w))) (num (masked (words-at (now (store .entry)) h w) (words-at (now (masks .entry)) b w))) ⌝ }
+{
+    if i == h {
+        if a == b {
+            return true;
+        }
+    }
+    match words::sets::compare(store, i, h, masks, a, b, w) {
+        Order::Same => true,
+        Order::More => false,
+        Order::Less => false,
+    }
+}
+
 // The head of stream j, if its set is that at h under the mask at a: it is added to c, and the stream goes on.
 fn take_head(
     store: &[u64],
@@ -91,7 +108,7 @@ fn take_head(
     a: usize,
     c: u64,
 ) -> u64
-    requires { ⌜ Held (now store) n w g (now signs) × Masks (now store) (now masks) n w (length (now at)) × (j < length (now at)) × (j < 5) × (h + w ≤ length (now store)) × (a + w ≤ length (now masks)) × (c < 2 ^ g .l)
+    requires { ⌜ Held (now store) n w g (now signs) × Masks (now store) (now masks) n w (length (now at)) × (j < length (now at)) × (j < 4) × (h + w ≤ length (now store)) × (a + w ≤ length (now masks)) × (c < 2 ^ g .l)
         × Loaded g (now signs) (decoded w n (now store)) (now at) j
         × Below (suc (num (masked (words-at (now store) h w) (words-at (now masks) a w)))) (rest g (now signs) (mask-at w (now masks)) (decoded w n (now store)) (now at) j) ⌝ }
     ensures { λ r. ⌜ Took g (now (signs .entry)) (mask-at w (now (masks .entry))) (decoded w n (now (store .entry))) (num (masked (words-at (now (store .entry)) h w) (words-at (now (masks .entry)) a w))) j (now (at .entry)) (now (at .exit)) c r ⌝ }
@@ -101,16 +118,13 @@ fn take_head(
         return c;
     }
     let stride = w + 1;
-    match words::sets::compare(store, i * stride + 1, h, masks, j * w, a, w) {
-        Order::More => c,
-        Order::Less => c,
-        Order::Same => {
-            let k = crate::streams::sign_of(store, i * stride + 1, w, g, signs, j);
-            let x = store[i * stride];
-            at[j] = crate::streams::next(store, n, w, g, signs, j, i + 1);
-            added(c, k, x, g.l)
-        }
+    if !same(store, i * stride + 1, h, masks, j * w, a, w) {
+        return c;
     }
+    let k = crate::streams::sign_of(store, i * stride + 1, w, g, signs, j);
+    let x = store[i * stride];
+    at[j] = crate::streams::next(store, n, w, g, signs, j, i + 1);
+    added(c, k, x, g.l)
 }
 
 // Adds up every head whose set is that at h under the mask at a; those streams go on.
@@ -125,7 +139,7 @@ pub fn sweep(
     h: usize,
     a: usize,
 ) -> u64
-    requires { ⌜ Held (now store) n w g (now signs) × Masks (now store) (now masks) n w (length (now at)) × (length (now at) ≤ 5) × (h + w ≤ length (now store)) × (a + w ≤ length (now masks))
+    requires { ⌜ Held (now store) n w g (now signs) × Masks (now store) (now masks) n w (length (now at)) × (length (now at) ≤ 4) × (h + w ≤ length (now store)) × (a + w ≤ length (now masks))
         × ((i : ℕ) → i < length (now at) → Loaded g (now signs) (decoded w n (now store)) (now at) i)
         × ((i : ℕ) → i < length (now at) → Below (suc (num (masked (words-at (now store) h w) (words-at (now masks) a w)))) (rest g (now signs) (mask-at w (now masks)) (decoded w n (now store)) (now at) i)) ⌝ }
     ensures { λ r. ⌜ Swept g (now (signs .entry)) (mask-at w (now (masks .entry))) (decoded w n (now (store .entry))) (num (masked (words-at (now (store .entry)) h w) (words-at (now (masks .entry)) a w))) (length (now (at .entry))) (now (at .entry)) (now (at .exit)) r ⌝ }

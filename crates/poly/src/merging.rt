@@ -1,9 +1,12 @@
 // The merge: the largest set at the heads, with the sum of all heads that have it, is the next term of the result.
 ghost use Prim.Native.Nat.{ℕ, _+_, _*_, _^_, _<_, _≤_};
 ghost use lib.ListN.{length, getD};
+ghost use Rattle.rules.specs.Polynomial.{gather};
 ghost use Rattle.words.specs.Numbers.{words-at, masked};
 ghost use Rattle.words.specs.Stored.{decoded};
-ghost use Rattle.poly.specs.Streams.{Next, Held, Masks, Lows, Emitted, Merged, Behind, stream, streams, mask-at};
+ghost use Rattle.weave.specs.Merging.{Lows};
+ghost use Rattle.weave.specs.Written.{Emitted, Gathered, Behind};
+ghost use Rattle.poly.specs.Streams.{Next, Held, Masks, stream, streams, mask-at};
 use crate::streams::Gate;
 
 // Writes the term of c and the set at h under the mask at a as the o-th of scratch, unless c is 0: what cancelled is no term,
@@ -44,10 +47,10 @@ fn run(
     scratch: &mut [u64],
     limit: usize,
 ) -> usize
-    requires { ⌜ Held (now store) n w g (now signs) × Masks (now store) (now masks) n w (length (now at)) × (0 < length (now at)) × (length (now at) ≤ 5) × (limit * (w + 1) ≤ length (now scratch))
+    requires { ⌜ Held (now store) n w g (now signs) × Masks (now store) (now masks) n w (length (now at)) × (0 < length (now at)) × (length (now at) ≤ 4) × (limit * (w + 1) ≤ length (now scratch))
         × Lows (2 ^ (64 * w)) (length (now at)) (λ j. stream g (now signs) (mask-at w (now masks)) j (decoded w n (now store)))
         × ((j : ℕ) → j < length (now at) → Next g (now signs) j (decoded w n (now store)) 0 (getD (now at) j 0)) ⌝ }
-    ensures { λ r. ⌜ Merged (2 ^ g .l) limit (streams g (now (signs .entry)) (mask-at w (now (masks .entry))) (length (now (at .entry))) (decoded w n (now (store .entry)))) (decoded w r (now (scratch .exit))) r
+    ensures { λ r. ⌜ Gathered limit (gather (2 ^ g .l) (streams g (now (signs .entry)) (mask-at w (now (masks .entry))) (length (now (at .entry))) (decoded w n (now (store .entry))))) (decoded w r (now (scratch .exit))) r
         × Behind w limit r (now (scratch .entry)) (now (scratch .exit)) ⌝ }
 {
     let stride = w + 1;
@@ -78,9 +81,9 @@ pub fn merge(
     scratch: &mut [u64],
     limit: usize,
 ) -> usize
-    requires { ⌜ Held (now store) n w g (now signs) × Masks (now store) (now masks) n w (length (now at)) × (0 < length (now at)) × (length (now at) ≤ 5) × (limit * (w + 1) ≤ length (now scratch))
+    requires { ⌜ Held (now store) n w g (now signs) × Masks (now store) (now masks) n w (length (now at)) × (0 < length (now at)) × (length (now at) ≤ 4) × (limit * (w + 1) ≤ length (now scratch))
         × Lows (2 ^ (64 * w)) (length (now at)) (λ j. stream g (now signs) (mask-at w (now masks)) j (decoded w n (now store))) ⌝ }
-    ensures { λ r. ⌜ Merged (2 ^ g .l) limit (streams g (now (signs .entry)) (mask-at w (now (masks .entry))) (length (now (at .entry))) (decoded w n (now (store .entry)))) (decoded w r (now (scratch .exit))) r
+    ensures { λ r. ⌜ Gathered limit (gather (2 ^ g .l) (streams g (now (signs .entry)) (mask-at w (now (masks .entry))) (length (now (at .entry))) (decoded w n (now (store .entry))))) (decoded w r (now (scratch .exit))) r
         × Behind w limit r (now (scratch .entry)) (now (scratch .exit)) ⌝ }
 {
     crate::streams::begin(store, n, w, g, signs, at);

@@ -5,32 +5,17 @@ ghost use mathlib.Core.List.{_++_};
 ghost use Prim.Native.Nat.{_+_, _-_, _*_, _^_, _<_, _≤_};
 ghost use lib.Dec.{ltb};
 ghost use lib.ListN.{length, take, drop, replicate};
-ghost use Rattle.rules.specs.Polynomial.{gather};
+ghost use Rattle.rules.specs.Polynomial.{Below, gather};
 ghost use Rattle.rules.specs.Steps.{all-replaced};
 ghost use Rattle.words.specs.Stored.{decoded};
-ghost use Rattle.poly.specs.Streams.{Behind};
-ghost use Rattle.poly.specs.Stepping.{occurs-in, Fit, Gathered, Ready, Prepared, Stepped};
+ghost use Rattle.weave.specs.Written.{Gathered, Behind};
+ghost use Rattle.poly.specs.Stepping.{holding, Fit, Ready, Prepared, Stepped};
 use crate::streams::Gate;
+use weave::weaving::Sizes;
 
-// Whether v is in any term: one look at each.
-fn occurs(store: &[u64], n: usize, w: usize, v: usize) -> bool
-    requires { ⌜ (n * (w + 1) ≤ length (now store)) × (w ≤ 16) × (v < 64 * w) ⌝ }
-    ensures { λ r. ⌜ r ≡ occurs-in v (decoded w n (now (store .entry))) ⌝ }
-{
-    let stride = w + 1;
-    let mut i = 0;
-    while i < n {
-        if words::sets::holds(store, i * stride + 1, w, v) == 1 {
-            return true;
-        }
-        i += 1;
-    }
-    false
-}
-
-// The step of gate g, the product of the literals x and y, gathered into scratch: how many terms; limit + 1 if there are more
-// than `limit`.
-fn gathered(
+// What becomes of the terms that hold the gate's variable, where it is the product of the literals x and y, gathered into scratch:
+// how many terms; limit + 1 if there are more than `limit`.
+fn replacements(
     store: &[u64],
     n: usize,
     w: usize,
@@ -41,15 +26,57 @@ fn gathered(
     limit: usize,
 ) -> usize
     requires { ⌜ Fit (now store) n w g x y × (limit * (w + 1) ≤ length (now scratch)) ⌝ }
-    ensures { λ r. ⌜ Gathered limit (gather (2 ^ g .l) (all-replaced (2 ^ g .l) (g .v) x y (decoded w n (now (store .entry))))) (decoded w r (now (scratch .exit))) r
+    ensures { λ r. ⌜ Gathered limit (gather (2 ^ g .l) (all-replaced (2 ^ g .l) (g .v) x y (holding (g .v) (decoded w n (now (store .entry)))))) (decoded w r (now (scratch .exit))) r
+        × (r ≤ limit → Below (2 ^ (64 * w)) (decoded w r (now (scratch .exit))))
         × Behind w limit r (now (scratch .entry)) (now (scratch .exit)) ⌝ }
 {
-    let mut signs = [0u8; 40];
-    let mut masks = [0u64; 80];
-    let mut at = [0usize; 5];
+    let mut signs = [0u8; 16];
+    let mut masks = [0u64; 64];
+    let mut at = [0usize; 4];
     crate::gates::sign_table(&mut signs, x, y);
     crate::gates::mask_table(&mut masks, w, g.v, g.x, g.y);
     crate::merging::merge(store, n, w, g, &signs, &masks, &mut at, scratch, limit)
+}
+
+// The step of gate g, the product of the literals x and y, gathered into scratch: how many terms; limit + 1 if there are more
+// than `limit`. No term from `end` on holds the gate's variable. What becomes of those that do is made behind room for `limit`
+// terms, and then woven into the others; more than twice as many could not be cancelled down to the limit.
+fn gathered(
+    store: &[u64],
+    n: usize,
+    w: usize,
+    g: Gate,
+    x: u32,
+    y: u32,
+    end: usize,
+    scratch: &mut [u64],
+    limit: usize,
+) -> usize
+    requires { ⌜ Prepared (now store) n w g x y end (now scratch) limit ⌝ }
+    ensures { λ r. ⌜ Gathered limit (gather (2 ^ g .l) (all-replaced (2 ^ g .l) (g .v) x y (decoded w n (now (store .entry))))) (decoded w r (now (scratch .exit))) r
+        × Behind w limit r (now (scratch .entry)) (now (scratch .exit)) ⌝ }
+{
+    let stride = w + 1;
+    let base = limit * stride;
+    let most = 2 * limit;
+    let made = replacements(store, end, w, g, x, y, &mut scratch[base..], most);
+    if made > most {
+        words::stretches::clear(scratch, base, base + most * stride);
+        return limit + 1;
+    }
+    let sizes = Sizes {
+        n,
+        w,
+        k: w,
+        v: g.v,
+        l: g.l,
+        end,
+        made,
+        limit,
+    };
+    let r = weave::weaving::weave(store, sizes, scratch);
+    words::stretches::clear(scratch, base, base + made * stride);
+    r
 }
 
 fn larger(a: usize, b: usize) -> usize
@@ -71,7 +98,7 @@ fn settle(store: &mut [u64], n: usize, w: usize, scratch: &mut [u64], r: usize)
 {
     let end = r * (w + 1);
     let most = larger(end, n * (w + 1));
-    words::stretches::copy(scratch, store, end);
+    words::stretches::copy(scratch, 0, store, 0, end);
     words::stretches::clear(store, end, most);
     words::stretches::clear(scratch, 0, end);
 }
@@ -85,13 +112,14 @@ fn replace(
     g: Gate,
     x: u32,
     y: u32,
+    end: usize,
     scratch: &mut [u64],
     limit: usize,
 ) -> usize
-    requires { ⌜ Prepared (now store) n w g x y (now scratch) limit ⌝ }
+    requires { ⌜ Prepared (now store) n w g x y end (now scratch) limit ⌝ }
     ensures { λ r. ⌜ Stepped w limit (gather (2 ^ g .l) (all-replaced (2 ^ g .l) (g .v) x y (decoded w n (now (store .entry))))) (now (store .entry)) (now (scratch .entry)) r (now (store .exit)) (now (scratch .exit)) ⌝ }
 {
-    let r = gathered(store, n, w, g, x, y, scratch, limit);
+    let r = gathered(store, n, w, g, x, y, end, scratch, limit);
     if r > limit {
         words::stretches::clear(scratch, 0, limit * (w + 1));
         return r;
@@ -117,7 +145,8 @@ pub fn step(
     ensures { λ r. ⌜ Stepped w limit (gather (2 ^ l) (all-replaced (2 ^ l) v x y (decoded w held (now (store .entry))))) (now (store .entry)) (now (scratch .entry)) r (now (store .exit)) (now (scratch .exit)) ⌝ }
 {
     let gate = v as usize;
-    if !occurs(store, held, w, gate) {
+    let end = weave::seeking::last_holding(store, held, w, gate);
+    if end == 0 {
         return held;
     }
     let p = crate::gates::apart(x, y);
@@ -129,5 +158,5 @@ pub fn step(
         y: (b / 2) as usize,
         l: l,
     };
-    replace(store, held, w, g, a, b, scratch, limit)
+    replace(store, held, w, g, a, b, end, scratch, limit)
 }

@@ -16,13 +16,15 @@ pub struct Gate {
 
 // The sign in stream j of the set at word `at`.
 pub fn sign_of(store: &[u64], at: usize, w: usize, g: Gate, signs: &[u8], j: usize) -> u8
-    requires { ⌜ (at + w ≤ length (now store)) × (g .v < 64 * w) × (g .x < 64 * w) × (g .y < 64 * w) × (j < 5) × (length (now signs) ≡ 40) ⌝ }
+    requires { ⌜ (at + w ≤ length (now store)) × (g .v < 64 * w) × (g .x < 64 * w) × (g .y < 64 * w) × (j < 4) × (length (now signs) ≡ 16) ⌝ }
     ensures { λ r. ⌜ r ≡ sign-of g (now (signs .entry)) j (num (words-at (now (store .entry)) at w)) ⌝ }
 {
-    let v = words::sets::holds(store, at, w, g.v);
+    if words::sets::holds(store, at, w, g.v) == 0 {
+        return 0;
+    }
     let x = words::sets::holds(store, at, w, g.x);
     let y = words::sets::holds(store, at, w, g.y);
-    signs[(v + 2 * x + 4 * y) * 5 + j]
+    signs[(x + 2 * y) * 4 + j]
 }
 
 // The first term from `from` on that is in stream j, or n.
@@ -35,7 +37,7 @@ pub fn next(
     j: usize,
     from: usize,
 ) -> usize
-    requires { ⌜ Held (now store) n w g (now signs) × (j < 5) × (from ≤ n) ⌝ }
+    requires { ⌜ Held (now store) n w g (now signs) × (j < 4) × (from ≤ n) ⌝ }
     ensures { λ r. ⌜ Next g (now (signs .entry)) j (decoded w n (now (store .entry))) from r ⌝ }
 {
     let stride = w + 1;
@@ -51,7 +53,7 @@ pub fn next(
 
 // Each stream at its first term.
 pub fn begin(store: &[u64], n: usize, w: usize, g: Gate, signs: &[u8], at: &mut [usize])
-    requires { ⌜ Held (now store) n w g (now signs) × (length (now at) ≤ 5) ⌝ }
+    requires { ⌜ Held (now store) n w g (now signs) × (length (now at) ≤ 4) ⌝ }
     ensures { λ r. ⌜ ((j : ℕ) → j < length (now (at .entry)) → Next g (now (signs .entry)) j (decoded w n (now (store .entry))) 0 (getD (now (at .exit)) j 0)) ⌝ }
 {
     let mut j = 0;

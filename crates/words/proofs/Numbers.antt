@@ -1,17 +1,19 @@
 -- Laws of sets in words: under a mask, their bits, their order, a variable turned.
 use mathlib.Core.Path.{_≡_, refl, ap, sym, _∙_}
+use mathlib.Core.Bool.{Bool, true, false}
 use mathlib.Core.List.{List, [], _∷_}
 use Prim.Native.Nat.{ℕ, zero, suc, _+_, _-_, _*_, _/_, _%_, _^_, _<_, _≤_}
 use native.Mathlib.Nat.{add-zero, zero-add, mul-zero, zero-mul, one-mul}
 use native.Mathlib.Omega.{arith}
 use lib.Bits.{bitXor, xor-block, xor-zero-l, xor-zero-r, xor-lt}
-use lib.Dec.{lit<}
-use lib.ListN.{length, getD, drop, set, length-take, length-drop, drop-of-length-le}
+use lib.Dec.{ltb, lit<}
+use lib.ListN.{length, getD, take, drop, set, length-take, length-drop, drop-of-length-le}
 use lib.Pow.{high, low, field, mod-mod-pow, shr-shr, shl-exact, pow-pos, pow-lt, pow-add}
-use lib.Seq.{drop-cons, getD-take, getD-drop, drop-set-add, take-set-lt}
-use borrow.Author.Tests.{lt-ltb, le-ltb}
+use lib.Seq.{drop-cons, getD-take, getD-drop, take-take, drop-set-add, take-set-lt}
+use borrow.Author.Tests.{ltb-true, ltb-false, lt-ltb, le-ltb}
 use Rattle.rules.specs.Values.{bit}
 use Rattle.words.specs.Numbers.{num, words-at, masked, Words, order-by, order-of}
+use Rattle.words.specs.declared.sets.Order.{Order}
 use Rattle.words.specs.declared.sets.Order.the-variants.{Less, Same, More}
 
 -- the order of two numbers, from what is known of them
@@ -27,9 +29,33 @@ pub order-same : (m n : ℕ) → m ≡ n → order-of m n ≡ Same
 unfolding order-of order-by
 order-same m n h = rw (le-ltb m n (omega arith), le-ltb n m (omega arith))
 
+-- what an order says of two numbers
+abbrev pub Said : ℕ → ℕ → Order → Type 0
+Said m n Less = m < n
+Said m n Same = m ≡ n
+Said m n More = n < m
+
+-- the order of two numbers says what is so
+said : (m n : ℕ) → Said m n (order-of m n)
+unfolding order-of order-by
+said m n = go (ltb m n) (ltb n m) refl refl
+  where
+    go : (a b : Bool) → ltb m n ≡ a → ltb n m ≡ b → Said m n (order-by a b)
+    go true b e f = ltb-true m n e
+    go false true e f = ltb-true n m f
+    go false false e f = omega (arith, ltb-false m n e, ltb-false n m f)
+
+-- the order, read back
+pub read-order : (m n : ℕ) (o : Order) → order-of m n ≡ o → Said m n o
+read-order m n o e = rw e at (said m n)
+
 -- w words are w words
 pub length-words-at : (s : List ℕ) (i w : ℕ) → i + w ≤ length s → length (words-at s i w) ≡ w
 length-words-at s i w h = simp (length-take, length-drop) (omega arith)
+
+-- and no more
+pub words-end : (s : List ℕ) (i w : ℕ) → i + w ≤ length s → drop w (words-at s i w) ≡ []
+words-end s i w h = drop-of-length-le (words-at s i w) {i = w} (omega (arith, length-words-at s i w h))
 
 -- a word of those from i on
 pub getD-words-at : (s : List ℕ) (i w k : ℕ) → k < w → getD (words-at s i w) k 0 ≡ getD s (i + k) 0
@@ -121,6 +147,35 @@ less-at s m i h a b w k l hi hh ha hb f g e le lt d =
     let hl : l < w = omega arith in
     num-less l (masked (words-at s i w) (words-at m a w)) (masked (words-at s h w) (words-at m b w)) (λ n q. masked-lt s m i a w hi ha f g n (omega arith)) (omega arith) (omega arith)
     (rw (getD-masked s m i a w hi ha l hl, getD-masked s m h b w hh hb l hl) lt) (rw e at d)
+
+-- and between two sets as they stand
+pub less-plain : (s m : List ℕ) (i h w k l : ℕ) → i + w ≤ length s → h + w ≤ length m → ((n : ℕ) → getD s n 0 < 2 ^ 64) → k ≡ suc l → k ≤ w
+    → getD s (i + l) 0 < getD m (h + l) 0 → drop k (words-at s i w) ≡ drop k (words-at m h w) → num (words-at s i w) < num (words-at m h w)
+less-plain s m i h w k l hi hh f e le lt d =
+    let la : length (words-at s i w) ≡ w = length-words-at s i w hi in
+    let lb : length (words-at m h w) ≡ w = length-words-at m h w hh in
+    let hl : l < w = omega arith in
+    num-less l (words-at s i w) (words-at m h w) (λ n q. rw (getD-words-at s i w n (omega arith)) (f (i + n))) (omega arith) (omega arith)
+    (rw (getD-words-at s i w l hl, getD-words-at m h w l hl) lt) (rw e at d)
+
+-- a number below 2^(64 k) is that of its first k words
+num-low : (k : ℕ) (xs : List ℕ) → num xs < 2 ^ (64 * k) → num xs ≡ num (take k xs)
+unfolding num
+num-low zero xs h = omega arith
+num-low (suc k) [] h = refl
+num-low (suc k) (x ∷ xs) h =
+    let e : 64 * suc k ≡ 64 * k + 64 = omega arith in
+    let p : 2 ^ (64 * suc k) ≡ 2 ^ (64 * k) * 2 ^ 64 = rw e (pow-add 2 (64 * k) 64) in
+    ap (λ (n : ℕ). n * 2 ^ 64 + x) (num-low k xs (omega arith))
+
+-- so is a set that uses k of its w words
+pub num-short : (s : List ℕ) (i w k : ℕ) → i + w ≤ length s → k ≤ w → num (words-at s i w) < 2 ^ (64 * k) → num (words-at s i w) ≡ num (words-at s i k)
+num-short s i w k l h n = num-low k (words-at s i w) n ∙ ap num (take-take k w (drop i s) h)
+
+-- the order of the words that two sets use is their order
+pub read-short : (s m : List ℕ) (i h w k : ℕ) (o : Order) → i + w ≤ length s → h + w ≤ length m → k ≤ w → num (words-at s i w) < 2 ^ (64 * k) → num (words-at m h w) < 2 ^ (64 * k)
+    → order-of (num (words-at s i k)) (num (words-at m h k)) ≡ o → Said (num (words-at s i w)) (num (words-at m h w)) o
+read-short s m i h w k o hi hh l a b e = read-order _ _ o (rw (num-short s i w k hi l a, num-short m h w k hh l b) e)
 
 -- a bit below 64 is the low word's
 bit-low : (h x b : ℕ) → b < 64 → x < 2 ^ 64 → bit (h * 2 ^ 64 + x) b ≡ bit x b

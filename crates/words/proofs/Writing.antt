@@ -1,14 +1,14 @@
 -- Laws of the loops that write words.
 use mathlib.Core.Path.{_≡_, ap, sym, _∙_}
 use mathlib.Core.List.{List, _∷_, _++_, append-assoc}
-use Prim.Native.Nat.{ℕ, suc, _+_, _-_, _<_, _≤_, _^_, _%_}
+use Prim.Native.Nat.{ℕ, _+_, _-_, _<_, _≤_, _^_, _%_}
 use native.Mathlib.Nat.{sub-self, mod-add-mod, add-mod-right}
 use native.Mathlib.Numerals.{add-one}
 use native.Mathlib.Omega.{arith}
 use lib.Bits.{bitXor}
-use lib.ListN.{length, getD, take, drop, set, replicate, length-replicate, replicate-append-replicate, length-take, length-append, take-append-drop}
+use lib.ListN.{length, getD, take, drop, set, replicate, length-replicate, replicate-append-replicate, length-take, length-drop, length-append, take-append-drop}
 use lib.Pow.{mod-mod-pow}
-use lib.Seq.{drop-cons, set-at, paste, paste-suc, take-all, take-suc, length-take-le, take-suc-set, drop-set-lt}
+use lib.Seq.{drop-cons, set-at, paste, paste-suc, drop-paste, take-all, take-suc-set, drop-set-lt, getD-drop}
 use Rattle.words.specs.Numbers.{words-at, masked}
 use Rattle.words.proofs.Numbers.{length-masked, getD-masked}
 
@@ -33,10 +33,27 @@ write-term d e N t c w h q =
     ∙ rw (append-assoc, append-assoc, drop-set-lt (t + 1 + w) d t c (omega arith), f)
 
 -- one more word copied
-pub copy-more : (d e s : List ℕ) (k : ℕ) → k < length d → k < length s → e ≡ take k s ++ drop k d
-    → set e k (getD s k 0) ≡ take (k + 1) s ++ drop (k + 1) d
-copy-more d e s k hd hs h =
-    rw (h, drop-cons d k 0 hd, set-at (take k s) _ (drop (suc k) d) (getD s k 0) k (length-take-le k s (omega arith)), add-one k, take-suc s k 0 hs, append-assoc)
+pub copy-more : (d e s : List ℕ) (f t k : ℕ) → f + k < length s → t + k < length d → e ≡ paste d t (drop f s) k
+    → set e (t + k) (getD s (f + k) 0) ≡ paste d t (drop f s) (k + 1)
+copy-more d e s f t k hs hd h =
+    rw (h, ← getD-drop f s k 0, add-one k) (paste-suc d t (drop f s) k 0 hd (simp length-drop (omega arith)))
+
+-- one more word copied from further behind in the same list
+pub carry-more : (d e : List ℕ) (h t k : ℕ) → t ≤ h → h + k < length d → e ≡ paste d t (drop h d) k
+    → set e (t + k) (getD e (h + k) 0) ≡ paste d t (drop h d) (k + 1)
+carry-more d e h t k l n q =
+    let g : t + k + (h - t) ≡ h + k = omega arith in
+    let from : drop (t + k) e ≡ drop (t + k) d =
+    ap (drop (t + k)) q ∙ drop-paste d t (drop h d) k (omega arith) (simp length-drop (omega arith)) in
+    let same : getD e (h + k) 0 ≡ getD d (h + k) 0 =
+    ap (λ (x : ℕ). getD e x 0) (sym g) ∙ sym (getD-drop (t + k) e (h - t) 0)
+    ∙ ap (λ (x : List ℕ). getD x (h - t) 0) from ∙ getD-drop (t + k) d (h - t) 0 ∙ ap (λ (x : ℕ). getD d x 0) g in
+    rw same (copy-more d e d h t k n (omega arith) q)
+
+-- all of them, behind the coefficient
+pub carry-term : (d e : List ℕ) (h t c w : ℕ) → t < h → t < length d → e ≡ paste (set d t c) (t + 1) (drop h (set d t c)) w
+    → e ≡ take t d ++ ((c ∷ words-at d h w) ++ drop (t + (w + 1)) d)
+carry-term d e h t c w l n q = write-term d e (words-at d h w) t c w n (rw (drop-set-lt h d t c l) at q)
 
 -- no word cleared yet
 pub clear-none : (d : List ℕ) (f : ℕ) → d ≡ take f d ++ (replicate (f - f) 0 ++ drop f d)

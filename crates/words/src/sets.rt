@@ -40,6 +40,26 @@ pub fn compare(
     Order::Same
 }
 
+// The order of the k words at i of `words` and those at j of `others`.
+pub fn compare_plain(words: &[u64], i: usize, others: &[u64], j: usize, k: usize) -> Order
+    requires { ⌜ (i + k ≤ length (now words)) × (j + k ≤ length (now others)) ⌝ }
+    ensures { λ r. ⌜ r ≡ order-of (num (words-at (now (words .entry)) i k)) (num (words-at (now (others .entry)) j k)) ⌝ }
+{
+    let mut left = k;
+    while left > 0 {
+        left -= 1;
+        let x = words[i + left];
+        let y = others[j + left];
+        if x < y {
+            return Order::Less;
+        }
+        if y < x {
+            return Order::More;
+        }
+    }
+    Order::Same
+}
+
 // 1 where the set at word `at` holds v, else 0.
 pub fn holds(words: &[u64], at: usize, w: usize, v: usize) -> usize
     requires { ⌜ (at + w ≤ length (now words)) × (v < 64 * w) ⌝ }

@@ -1,17 +1,17 @@
 // Stretches of words: copied, cleared.
 ghost use mathlib.Core.Path.{_≡_};
 ghost use mathlib.Core.List.{_++_};
-ghost use Prim.Native.Nat.{_-_, _<_, _≤_};
+ghost use Prim.Native.Nat.{_+_, _-_, _<_, _≤_};
 ghost use lib.ListN.{length, take, drop, replicate};
 
-// Copies the first n words of `words` over those of `target`.
-pub fn copy(words: &[u64], target: &mut [u64], n: usize)
-    requires { ⌜ (n ≤ length (now words)) × (n ≤ length (now target)) ⌝ }
-    ensures { λ r. ⌜ now (target .exit) ≡ take n (now (words .entry)) ++ drop n (now (target .entry)) ⌝ }
+// Copies the n words at `from` of `words` over those at `to` of `target`.
+pub fn copy(words: &[u64], from: usize, target: &mut [u64], to: usize, n: usize)
+    requires { ⌜ (from + n ≤ length (now words)) × (to + n ≤ length (now target)) ⌝ }
+    ensures { λ r. ⌜ now (target .exit) ≡ take to (now (target .entry)) ++ (take n (drop from (now (words .entry))) ++ drop (to + n) (now (target .entry))) ⌝ }
 {
     let mut k = 0;
     while k < n {
-        target[k] = words[k];
+        target[to + k] = words[from + k];
         k += 1;
     }
 }

@@ -42,3 +42,16 @@ pub fn write(
     target[t] = c;
     write_set(words, h, masks, a, w, target, t + 1);
 }
+
+// Writes a term at word t: the coefficient c, and the set that stands further behind, at h.
+pub fn carry(words: &mut [u64], h: usize, w: usize, t: usize, c: u64)
+    requires { ⌜ (t + (w + 1) ≤ h) × (h + w ≤ length (now words)) ⌝ }
+    ensures { λ r. ⌜ now (words .exit) ≡ take t (now (words .entry)) ++ ((c ∷ words-at (now (words .entry)) h w) ++ drop (t + (w + 1)) (now (words .entry))) ⌝ }
+{
+    words[t] = c;
+    let mut k = 0;
+    while k < w {
+        words[t + 1 + k] = words[h + k];
+        k += 1;
+    }
+}

@@ -4,7 +4,7 @@ use Prim.Native.Nat.{_-_, _≤_}
 use native.Mathlib.Omega.{arith}
 use lib.ListN.{length}
 use Rattle.poly.proofs.Flow.{row-in}
-use Rattle.poly.proofs.Tables.{Making, making-more, making-all}
+use Rattle.poly.proofs.Tables.{Making, making-more}
 use Rattle.poly.proofs.gates.mask_table.Statement.{statement}
 use Rattle.poly.proofs.gates.mask_table.Tie as tie
 use Rattle.poly.proofs.gates.mask_table.Reads as reads
@@ -28,7 +28,7 @@ mask-requires c κs =
     let a = c .before .before .before .before .args in
     let p = c .before .before .before .before .pre in
     let l = c .before .before .loop in
-    (rw (l .inv .1) (row-in (l .j) 5 (a .w) (length (a .masks .now)) (omega arith) (p .0)), p .1, p .2, p .3, omega arith, l .inv .2 .1 (l .j) (omega arith) (omega arith))
+    (rw (l .inv .1) (row-in (l .j) 4 (a .w) (length (a .masks .now)) (omega arith) (p .0)), p .1, p .2, p .3, omega arith, l .inv .2 .1 (l .j) (omega arith) (omega arith))
 
 add-j : tie.Need-add-j Inv-loop μ-loop
 add-j c = omega arith
@@ -52,7 +52,7 @@ returns c =
     let a = c .before .before .before .args in
     let l = c .before .loop in
     let e : l .j ≡ 4 = omega arith in
-    making-all (a .w) (a .v) (a .x) (a .y) (l .masks) (rw e at (l .inv .2))
+    λ i d. l .inv .2 .0 i (omega arith)
 
 pub mask-table-spec : {M : Type 1} → statement M
 mask-table-spec =

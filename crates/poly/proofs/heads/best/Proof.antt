@@ -22,7 +22,7 @@ abbrev μ-loop : tie.MeasureT-loop
 
 loop-holds : tie.Need-loop-holds Inv-loop μ-loop
 loop-holds c =
-    (omega arith, omega arith, λ i h. absurd (omega arith))
+    (omega arith, omega arith, λ i h. let e : i ≡ 0 = omega arith in rw e (omega arith))
 
 better-requires : tie.Need-better-requires Inv-loop μ-loop
 better-requires c κs =

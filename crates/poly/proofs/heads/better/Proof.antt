@@ -2,8 +2,9 @@
 use mathlib.Core.Path.{sym, _∙_}
 use native.Mathlib.Omega.{arith}
 use lib.ListN.{length, getD}
-use Rattle.poly.proofs.Flow.{Inside, bounds, better-end, better-first, better-yes, better-no, read-order}
+use Rattle.poly.proofs.Flow.{Inside, bounds, better-end, better-first, better-yes, better-no}
 use borrow.Author.Needs.{needs}
+use Rattle.words.proofs.Numbers.{read-order}
 use Rattle.words.specs.declared.sets.Order.the-variants.{Less, Same, More}
 use Rattle.poly.proofs.heads.better.Statement.{statement}
 use Rattle.poly.proofs.heads.better.Tie as tie

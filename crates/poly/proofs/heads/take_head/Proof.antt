@@ -1,22 +1,21 @@
 -- Each return is one of the cases of a head.
-use mathlib.Core.Path.{sym, _∙_}
 use native.Mathlib.Nat.{mod-lt}
 use native.Mathlib.Omega.{arith}
+use mathlib.Core.Path.{sym, _∙_}
 use lib.Pow.{pow-pos}
 use lib.ListN.{length, getD}
 use Rattle.words.specs.Numbers.{num, masked, words-at}
 use Rattle.words.specs.Stored.{decoded}
 use Rattle.words.proofs.Stored.{decoded-at, length-decoded}
 use Rattle.poly.specs.Streams.{mask-at, weight}
-use Rattle.poly.proofs.Flow.{Inside, bounds, took-end, took-other, took-same, read-order, key-num}
+use Rattle.poly.proofs.Flow.{Inside, bounds, took-end, took-other, took-same, key-num, different, alike}
 use borrow.Author.Needs.{needs}
-use Rattle.words.specs.declared.sets.Order.the-variants.{Less, Same, More}
 use Rattle.poly.proofs.heads.take_head.Statement.{statement}
 use Rattle.poly.proofs.heads.take_head.Tie as tie
 use Rattle.poly.proofs.heads.take_head.Reads as reads
 use Rattle.poly.proofs.heads.take_head.Lts as lts
 use Rattle.poly.proofs.heads.added.Reads as added-reads
-use Rattle.words.proofs.sets.compare.Reads as compare-reads
+use Rattle.poly.proofs.heads.same.Reads as same-reads
 use Rattle.poly.proofs.streams.next.Reads as next-reads
 use Rattle.poly.proofs.streams.sign_of.Reads as sign-of-reads
 
@@ -41,56 +40,55 @@ returns c =
 add-stride : tie.Need-add-stride
 add-stride c = search needs
 
-mul-compare : tie.Need-mul-compare
-mul-compare c =
+mul-same : tie.Need-mul-same
+mul-same c =
     omega (arith, head-room c)
 
-add-compare : tie.Need-add-compare
-add-compare c =
+add-same : tie.Need-add-same
+add-same c =
     omega (arith, head-room c)
 
-mul-compare-2 : tie.Need-mul-compare-2
-mul-compare-2 c =
+mul-same-2 : tie.Need-mul-same-2
+mul-same-2 c =
     omega (arith, head-room c)
 
-compare-requires : tie.Need-compare-requires
-compare-requires c κs =
+same-requires : tie.Need-same-requires
+same-requires c κs =
     omega (arith, head-room c)
 
-enum-told : tie.Need-enum-told
-enum-told c = search needs
-
-enum-told-2 : tie.Need-enum-told-2
-enum-told-2 c = search needs
-
-enum-told-3 : tie.Need-enum-told-3
-enum-told-3 c = search needs
+returns-2 : tie.Need-returns-2
+returns-2 c =
+    let a = c .before .before .before .before .before .before .before .before .args in
+    let p = c .before .before .before .before .before .before .before .before .pre in
+    let e = different _ _ (c .before .same .result) (c .before .same .ensures) (c .if2 .taken) in
+    let k = key-num (a .store .now) (a .masks .now) (a .n) (a .w) (getD (a .at .now) (a .j) 0) (a .j) (length (a .at .now)) (c .before .before .if1 .left) (p .0 .room) (p .2) (p .1 .wide) (λ x. c .before .before .before .before .before .before .before .shared-slice-known .given x .fits) (λ x. c .before .before .before .before .before .shared-slice-known3 .given x .fits) in
+    took-other (a .g) (a .signs .now) (mask-at (a .w) (a .masks .now)) (a .j) (decoded (a .w) (a .n) (a .store .now)) (num (masked (words-at (a .store .now) (a .h) (a .w)) (words-at (a .masks .now) (a .a) (a .w)))) (a .at .now) (a .c) (p .6) (p .2) (p .7) (p .8) (omega (arith, c .before .before .if1 .left, length-decoded (a .w) (a .n) (a .store .now))) (λ z. e (sym k ∙ z))
 
 mul-sign-of : tie.Need-mul-sign-of
 mul-sign-of c =
-    omega (arith, head-room (c .before .before .before))
+    omega (arith, head-room (c .before .before))
 
 add-sign-of : tie.Need-add-sign-of
 add-sign-of c =
-    omega (arith, head-room (c .before .before .before))
+    omega (arith, head-room (c .before .before))
 
 sign-of-requires : tie.Need-sign-of-requires
 sign-of-requires c κs =
-    let p = c .before .before .before .before .before .before .before .before .before .pre .0 in
-    let s = head-room (c .before .before .before) in
-    (omega arith, p .v-in, p .x-in, p .y-in, c .before .before .before .before .before .before .before .before .before .pre .3, p .table)
+    let p = c .before .before .before .before .before .before .before .before .pre .0 in
+    let s = head-room (c .before .before) in
+    (omega arith, p .v-in, p .x-in, p .y-in, c .before .before .before .before .before .before .before .before .pre .3, p .table)
 
 mul-x : tie.Need-mul-x
 mul-x c =
-    omega (arith, head-room (c .before .before .before .before))
+    omega (arith, head-room (c .before .before .before))
 
 mul-x-2 : tie.Need-mul-x-2
 mul-x-2 c =
-    omega (arith, head-room (c .before .before .before .before))
+    omega (arith, head-room (c .before .before .before))
 
 shared-slice-read-x : tie.Need-shared-slice-read-x
 shared-slice-read-x c =
-    omega (arith, head-room (c .before .before .before .before .before))
+    omega (arith, head-room (c .before .before .before .before))
 
 add-next : tie.Need-add-next
 add-next c = search needs
@@ -106,38 +104,22 @@ slice-write-at c = search needs
 
 added-requires : tie.Need-added-requires
 added-requires c κs =
-    let a = c .before .before .before .before .before .before .before .before .before .before .before .before .args in
-    let p = c .before .before .before .before .before .before .before .before .before .before .before .before .pre in
-    let m = p .0 .small (getD (a .at .now) (a .j) 0) (c .before .before .before .before .before .before .if1 .left) in
+    let a = c .before .before .before .before .before .before .before .before .before .before .before .args in
+    let p = c .before .before .before .before .before .before .before .before .before .before .before .pre in
+    let m = p .0 .small (getD (a .at .now) (a .j) 0) (c .before .before .before .before .before .if1 .left) in
     (p .0 .l-high, p .6, omega arith)
-
-returns-2 : tie.Need-returns-2
-returns-2 c =
-    let a = c .before .before .before .before .before .before .before .before .before .args in
-    let p = c .before .before .before .before .before .before .before .before .before .pre in
-    let e = read-order _ _ More (sym (c .before .before .compare .ensures) ∙ c .enum-told .given .1) in
-    let k = key-num (a .store .now) (a .masks .now) (a .n) (a .w) (getD (a .at .now) (a .j) 0) (a .j) (length (a .at .now)) (c .before .before .before .if1 .left) (p .0 .room) (p .2) (p .1 .wide) (λ x. c .before .before .before .before .before .before .before .before .shared-slice-known .given x .fits) (λ x. c .before .before .before .before .before .before .shared-slice-known3 .given x .fits) in
-    took-other (a .g) (a .signs .now) (mask-at (a .w) (a .masks .now)) (a .j) (decoded (a .w) (a .n) (a .store .now)) (num (masked (words-at (a .store .now) (a .h) (a .w)) (words-at (a .masks .now) (a .a) (a .w)))) (a .at .now) (a .c) (p .6) (p .2) (p .7) (p .8) (omega (arith, c .before .before .before .if1 .left, length-decoded (a .w) (a .n) (a .store .now))) (λ z. omega (arith, e, k, z))
-
-returns-3 : tie.Need-returns-3
-returns-3 c =
-    let a = c .before .before .before .before .before .before .before .before .before .args in
-    let p = c .before .before .before .before .before .before .before .before .before .pre in
-    let e = read-order _ _ Less (sym (c .before .before .compare .ensures) ∙ c .enum-told2 .given .1) in
-    let k = key-num (a .store .now) (a .masks .now) (a .n) (a .w) (getD (a .at .now) (a .j) 0) (a .j) (length (a .at .now)) (c .before .before .before .if1 .left) (p .0 .room) (p .2) (p .1 .wide) (λ x. c .before .before .before .before .before .before .before .before .shared-slice-known .given x .fits) (λ x. c .before .before .before .before .before .before .shared-slice-known3 .given x .fits) in
-    took-other (a .g) (a .signs .now) (mask-at (a .w) (a .masks .now)) (a .j) (decoded (a .w) (a .n) (a .store .now)) (num (masked (words-at (a .store .now) (a .h) (a .w)) (words-at (a .masks .now) (a .a) (a .w)))) (a .at .now) (a .c) (p .6) (p .2) (p .7) (p .8) (omega (arith, c .before .before .before .if1 .left, length-decoded (a .w) (a .n) (a .store .now))) (λ z. omega (arith, e, k, z))
 
 same-length : tie.Need-same-length
 same-length c = search needs
 
-returns-4 : tie.Need-returns-4
+returns-3 : tie.Need-returns-3
 unfolding weight
-returns-4 c =
-    let a = c .before .before .before .before .before .before .before .before .before .before .before .before .before .args in
-    let p = c .before .before .before .before .before .before .before .before .before .before .before .before .before .pre in
-    let i = c .before .before .before .before .before .before .before .if1 .left in
-    let e = read-order _ _ Same (sym (c .before .before .before .before .before .before .compare .ensures) ∙ c .before .before .before .before .enum-told3 .given .1) in
-    let k = key-num (a .store .now) (a .masks .now) (a .n) (a .w) (getD (a .at .now) (a .j) 0) (a .j) (length (a .at .now)) i (p .0 .room) (p .2) (p .1 .wide) (λ x. c .before .before .before .before .before .before .before .before .before .before .before .before .shared-slice-known .given x .fits) (λ x. c .before .before .before .before .before .before .before .before .before .before .shared-slice-known3 .given x .fits) in
+returns-3 c =
+    let a = c .before .before .before .before .before .before .before .before .before .before .before .before .args in
+    let p = c .before .before .before .before .before .before .before .before .before .before .before .before .pre in
+    let i = c .before .before .before .before .before .before .if1 .left in
+    let e = alike _ _ (c .before .before .before .before .before .same .result) (c .before .before .before .before .before .same .ensures) (c .before .before .before .before .if2 .left) in
+    let k = key-num (a .store .now) (a .masks .now) (a .n) (a .w) (getD (a .at .now) (a .j) 0) (a .j) (length (a .at .now)) i (p .0 .room) (p .2) (p .1 .wide) (λ x. c .before .before .before .before .before .before .before .before .before .before .before .shared-slice-known .given x .fits) (λ x. c .before .before .before .before .before .before .before .before .before .shared-slice-known3 .given x .fits) in
     let t = decoded-at (a .w) (a .n) (getD (a .at .now) (a .j) 0) (a .store .now) i in
     took-same (a .g) (a .signs .now) (mask-at (a .w) (a .masks .now)) (a .j) (decoded (a .w) (a .n) (a .store .now)) (num (masked (words-at (a .store .now) (a .h) (a .w)) (words-at (a .masks .now) (a .a) (a .w)))) (a .at .now) (a .c) (p .6) (p .2) (p .7) (p .8) (omega (arith, i, length-decoded (a .w) (a .n) (a .store .now))) (k ∙ e)
     (c .before .next .result) (c .added .result) (c .before .next .ensures) (c .added .ensures ∙ rw (t, c .before .before .before .sign-of .ensures)) (rw (c .added .ensures) (mod-lt _ (pow-pos _)))
@@ -150,13 +132,11 @@ take-head-spec =
     slice-read-i
     returns
     add-stride
-    mul-compare
-    add-compare
-    mul-compare-2
-    compare-requires
-    enum-told
-    enum-told-2
-    enum-told-3
+    mul-same
+    add-same
+    mul-same-2
+    same-requires
+    returns-2
     mul-sign-of
     add-sign-of
     sign-of-requires
@@ -168,7 +148,5 @@ take-head-spec =
     mul-at
     slice-write-at
     added-requires
-    returns-2
-    returns-3
     same-length
-    returns-4)
+    returns-3)

@@ -4,7 +4,7 @@ use native.Mathlib.Omega.{arith}
 use lib.ListN.{length}
 use Rattle.words.specs.Numbers.{words-at, masked}
 use Rattle.words.proofs.Stored.{stride-in}
-use Rattle.poly.proofs.Settled.{emit-skip, emit-full, emit-put}
+use Rattle.weave.proofs.Growing.{emit-skip, emit-full, emit-put}
 use borrow.Author.Needs.{needs}
 use Rattle.poly.proofs.merging.emit.Statement.{statement}
 use Rattle.poly.proofs.merging.emit.Tie as tie

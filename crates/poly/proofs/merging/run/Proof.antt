@@ -6,9 +6,11 @@ use lib.ListN.{length, getD}
 use Rattle.rules.specs.Each.{sum}
 use Rattle.words.specs.Stored.{decoded}
 use Rattle.words.proofs.Stored.{length-decoded}
-use Rattle.poly.specs.Streams.{mask-at, Behind}
+use Rattle.weave.specs.Written.{Behind}
+use Rattle.poly.specs.Streams.{mask-at}
 use Rattle.poly.proofs.Flow.{Inside, bounds}
-use Rattle.poly.proofs.Merges.{Going, behind-none, go-start, go-end, go-full, turn-high, turn-on, turn-behind, turn-less}
+use Rattle.weave.proofs.Growing.{behind-none}
+use Rattle.poly.proofs.Merges.{Going, go-start, go-end, go-full, turn-high, turn-on, turn-behind, turn-less}
 use Rattle.poly.proofs.merging.run.Statement.{statement}
 use Rattle.poly.proofs.merging.run.Tie as tie
 use Rattle.poly.proofs.merging.run.Reads as reads

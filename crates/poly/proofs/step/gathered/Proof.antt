@@ -1,76 +1,107 @@
--- The tables are those of the gate, so its streams gather to its step.
-use mathlib.Core.Path.{_≡_}
-use mathlib.Core.List.{List}
-use Prim.Native.Nat.{ℕ}
+-- The terms that hold v are replaced, and what they become is woven into the others.
+use mathlib.Core.Path.{refl}
 use native.Mathlib.Omega.{arith}
-use lib.ListN.{length}
-use Rattle.words.specs.Stored.{decoded}
-use Rattle.poly.proofs.Tables.{mask-none, held, lows, gathered}
+use Rattle.poly.proofs.Woven.{front-fit, part-room, made-room, same-room, task, woven-full, woven-fits}
 use borrow.Author.Needs.{needs}
 use Rattle.poly.proofs.step.gathered.Statement.{statement}
 use Rattle.poly.proofs.step.gathered.Tie as tie
 use Rattle.poly.proofs.step.gathered.Reads as reads
 use Rattle.poly.proofs.step.gathered.Lts as lts
-use Rattle.poly.proofs.merging.merge.Reads as merge-reads
-use Rattle.poly.proofs.gates.mask_table.Reads as mask-table-reads
-use Rattle.poly.proofs.gates.sign_table.Reads as sign-table-reads
+use Rattle.poly.proofs.step.replacements.Reads as replacements-reads
+use Rattle.weave.proofs.weaving.weave.Reads as weave-reads
+use Rattle.words.proofs.stretches.clear.Reads as clear-reads
 
-slice-aggregate-sign-table : tie.Need-slice-aggregate-sign-table
-slice-aggregate-sign-table c = search needs
+add-stride : tie.Need-add-stride
+add-stride c = search needs
 
-sign-table-requires : tie.Need-sign-table-requires
-sign-table-requires c κs = search needs
+mul-base : tie.Need-mul-base
+mul-base c = search needs
 
-slice-aggregate-mask-table : tie.Need-slice-aggregate-mask-table
-slice-aggregate-mask-table c = search needs
+mul-most : tie.Need-mul-most
+mul-most c = search needs
 
-mask-table-requires : tie.Need-mask-table-requires
-mask-table-requires c κs =
-    let p = c .before .before .before .before .before .before .pre .0 in
-    (omega (arith, p .narrow), p .v-in, p .x-in, p .y-in, λ j l. mask-none (c .before .before .before .before .before .before .args .w) 80 j)
+mul-replacements : tie.Need-mul-replacements
+mul-replacements c = search needs
 
-slice-aggregate-merge : tie.Need-slice-aggregate-merge
-slice-aggregate-merge c = search needs
+sub-replacements : tie.Need-sub-replacements
+sub-replacements c = search needs
 
-slice-aggregate-merge-2 : tie.Need-slice-aggregate-merge-2
-slice-aggregate-merge-2 c = search needs
+part-replacements-start : tie.Need-part-replacements-start
+part-replacements-start c = search needs
 
-slice-aggregate-merge-3 : tie.Need-slice-aggregate-merge-3
-slice-aggregate-merge-3 c = search needs
+part-replacements-end : tie.Need-part-replacements-end
+part-replacements-end c = search needs
 
-merge-requires : tie.Need-merge-requires
-merge-requires c κs =
-    let a = c .before .before .before .before .before .before .before .before .before .before .before .before .args in
-    let p = c .before .before .before .before .before .before .before .before .before .before .before .before .pre in
-    let s : List ℕ = c .before .before .before .before .before .before .before .before .sign-table .last .0 in
-    let m : List ℕ = c .before .before .before .before .before .mask-table .last .0 in
-    let ls : length (c .before .before .before .before .before .before .before .before .sign-table .last .0) ≡ 40 = c .before .before .before .before .before .before .before .before .sign-table .kept .0 in
-    let lm : length (c .before .before .before .before .before .mask-table .last .0) ≡ 80 = c .before .before .before .before .before .mask-table .kept .0 in
-    let h = held (a .store .now) (a .n) (a .w) (a .g) (a .x) (a .y) (p .0) (c .before .before .before .before .before .before .before .before .sign-table .last .0) (c .before .before .before .before .before .mask-table .last .0) ls (c .before .before .before .before .before .before .before .before .sign-table .ensures) (c .before .before .before .before .before .mask-table .ensures) in
-    let l = lows (a .store .now) (a .n) (a .w) (a .g) (a .x) (a .y) (p .0) (c .before .before .before .before .before .before .before .before .sign-table .last .0) (c .before .before .before .before .before .mask-table .last .0) ls (c .before .before .before .before .before .before .before .before .sign-table .ensures) (c .before .before .before .before .before .mask-table .ensures) in
-    (h, record { narrow = p .0 .narrow; room = p .0 .room; wide = omega (arith, p .0 .narrow, lm) }, omega arith, omega arith, p .1, l)
+replacements-requires : tie.Need-replacements-requires
+replacements-requires c κs =
+    (front-fit (c .before .before .before .args .store .now) (c .before .before .before .args .n) (c .before .before .before .args .w) (c .before .before .before .args .g) (c .before .before .before .args .x) (c .before .before .before .args .y) (c .before .before .before .args .end) (c .before .before .before .args .scratch .now) (c .before .before .before .args .limit) (c .before .before .before .pre), part-room (c .before .before .before .args .store .now) (c .before .before .before .args .n) (c .before .before .before .args .w) (c .before .before .before .args .g) (c .before .before .before .args .x) (c .before .before .before .args .y) (c .before .before .before .args .end) (c .before .before .before .args .scratch .now) (c .before .before .before .args .limit) (c .before .before .before .pre))
+
+mul-clear : tie.Need-mul-clear
+mul-clear c = search needs
+
+add-clear : tie.Need-add-clear
+add-clear c = search needs
+
+clear-requires : tie.Need-clear-requires
+clear-requires c κs = search needs
+
+add-result : tie.Need-add-result
+add-result c = search needs
 
 same-length : tie.Need-same-length
 same-length c = search needs
 
 returns : tie.Need-returns
 returns c =
-    let a = c .before .before .before .before .before .before .before .before .before .before .before .before .before .before .before .before .args in
-    let p = c .before .before .before .before .before .before .before .before .before .before .before .before .before .before .before .before .pre in
-    let ls : length (c .before .before .before .before .before .before .before .before .before .before .before .before .sign-table .last .0) ≡ 40 = c .before .before .before .before .before .before .before .before .before .before .before .before .sign-table .kept .0 in
-    (gathered (a .store .now) (a .n) (a .w) (a .g) (a .x) (a .y) (p .0) (c .before .before .before .before .before .before .before .before .before .before .before .before .sign-table .last .0) (c .before .before .before .before .before .before .before .before .before .mask-table .last .0) ls (c .before .before .before .before .before .before .before .before .before .before .before .before .sign-table .ensures) (c .before .before .before .before .before .before .before .before .before .mask-table .ensures) (a .limit) (c .before .before .before .merge .result) (decoded (a .w) (c .before .before .before .merge .result) (c .before .before .before .merge .last .1 .1 .1 .1 .1 .1 .1 .0)) (c .before .before .before .merge .ensures .0), c .before .before .before .merge .ensures .1)
+    woven-full (c .before .before .before .before .before .before .before .before .before .before .before .args .store .now) (c .before .before .before .before .before .before .before .before .before .before .before .args .n) (c .before .before .before .before .before .before .before .before .before .before .before .args .w) (c .before .before .before .before .before .before .before .before .before .before .before .args .g) (c .before .before .before .before .before .before .before .before .before .before .before .args .x) (c .before .before .before .before .before .before .before .before .before .before .before .args .y) (c .before .before .before .before .before .before .before .before .before .before .before .args .end) (c .before .before .before .before .before .before .before .before .before .before .before .args .scratch .now) (c .before .before .before .before .before .before .before .before .before .before .before .args .limit) (c .before .before .before .before .before .before .before .before .before .before .before .pre) (c .before .before .before .before .before .before .before .replacements .result) (c .before .before .before .before .before .before .before .replacements .last .1 .1 .1 .1 .1 .1 .0) _ (c .before .before .before .before .before .before .before .replacements .kept .1 .1 .1 .1 .1 .1 .0) refl (c .before .before .before .before .before .before .before .replacements .ensures .0) (c .before .before .before .before .before .before .before .replacements .ensures .1) (c .before .before .before .before .before .before .before .replacements .ensures .2) (c .before .before .before .before .if1 .taken) (c .before .before .clear .last .0) (c .before .before .clear .ensures)
+
+weave-requires : tie.Need-weave-requires
+weave-requires c κs =
+    task (c .before .before .before .before .before .before .before .before .args .store .now) (c .before .before .before .before .before .before .before .before .args .n) (c .before .before .before .before .before .before .before .before .args .w) (c .before .before .before .before .before .before .before .before .args .g) (c .before .before .before .before .before .before .before .before .args .x) (c .before .before .before .before .before .before .before .before .args .y) (c .before .before .before .before .before .before .before .before .args .end) (c .before .before .before .before .before .before .before .before .args .scratch .now) (c .before .before .before .before .before .before .before .before .args .limit) (c .before .before .before .before .before .before .before .before .pre) (c .before .before .before .before .replacements .result) (c .before .before .before .before .replacements .last .1 .1 .1 .1 .1 .1 .0) _ (c .before .before .before .before .replacements .kept .1 .1 .1 .1 .1 .1 .0) refl (c .before .before .before .before .replacements .ensures .0) (c .before .before .before .before .replacements .ensures .1) (c .before .before .before .before .replacements .ensures .2) (c .before .if1 .left)
+
+mul-clear-2 : tie.Need-mul-clear-2
+mul-clear-2 c =
+    let m = made-room (c .before .before .before .before .before .before .before .before .before .before .before .before .args .store .now) (c .before .before .before .before .before .before .before .before .before .before .before .before .args .n) (c .before .before .before .before .before .before .before .before .before .before .before .before .args .w) (c .before .before .before .before .before .before .before .before .before .before .before .before .args .g) (c .before .before .before .before .before .before .before .before .before .before .before .before .args .x) (c .before .before .before .before .before .before .before .before .before .before .before .before .args .y) (c .before .before .before .before .before .before .before .before .before .before .before .before .args .end) (c .before .before .before .before .before .before .before .before .before .before .before .before .args .scratch .now) (c .before .before .before .before .before .before .before .before .before .before .before .before .args .limit) (c .before .before .before .before .before .before .before .before .before .before .before .before .pre) (c .before .before .before .before .before .before .before .before .replacements .result) (c .before .before .before .before .before .before .before .before .replacements .last .1 .1 .1 .1 .1 .1 .0) _ (c .before .before .before .before .before .before .before .before .replacements .kept .1 .1 .1 .1 .1 .1 .0) refl (c .before .before .before .before .before .before .before .before .replacements .ensures .0) (c .before .before .before .before .before .before .before .before .replacements .ensures .1) (c .before .before .before .before .before .before .before .before .replacements .ensures .2) (c .before .before .before .before .before .if1 .left) in
+    omega (arith, m)
+
+add-clear-2 : tie.Need-add-clear-2
+add-clear-2 c =
+    let m = made-room (c .before .before .before .before .before .before .before .before .before .before .before .before .args .store .now) (c .before .before .before .before .before .before .before .before .before .before .before .before .args .n) (c .before .before .before .before .before .before .before .before .before .before .before .before .args .w) (c .before .before .before .before .before .before .before .before .before .before .before .before .args .g) (c .before .before .before .before .before .before .before .before .before .before .before .before .args .x) (c .before .before .before .before .before .before .before .before .before .before .before .before .args .y) (c .before .before .before .before .before .before .before .before .before .before .before .before .args .end) (c .before .before .before .before .before .before .before .before .before .before .before .before .args .scratch .now) (c .before .before .before .before .before .before .before .before .before .before .before .before .args .limit) (c .before .before .before .before .before .before .before .before .before .before .before .before .pre) (c .before .before .before .before .before .before .before .before .replacements .result) (c .before .before .before .before .before .before .before .before .replacements .last .1 .1 .1 .1 .1 .1 .0) _ (c .before .before .before .before .before .before .before .before .replacements .kept .1 .1 .1 .1 .1 .1 .0) refl (c .before .before .before .before .before .before .before .before .replacements .ensures .0) (c .before .before .before .before .before .before .before .before .replacements .ensures .1) (c .before .before .before .before .before .before .before .before .replacements .ensures .2) (c .before .before .before .before .before .if1 .left) in
+    omega (arith, m)
+
+clear-requires-2 : tie.Need-clear-requires-2
+clear-requires-2 c κs =
+    let m = made-room (c .before .before .before .before .before .before .before .before .before .before .before .before .args .store .now) (c .before .before .before .before .before .before .before .before .before .before .before .before .args .n) (c .before .before .before .before .before .before .before .before .before .before .before .before .args .w) (c .before .before .before .before .before .before .before .before .before .before .before .before .args .g) (c .before .before .before .before .before .before .before .before .before .before .before .before .args .x) (c .before .before .before .before .before .before .before .before .before .before .before .before .args .y) (c .before .before .before .before .before .before .before .before .before .before .before .before .args .end) (c .before .before .before .before .before .before .before .before .before .before .before .before .args .scratch .now) (c .before .before .before .before .before .before .before .before .before .before .before .before .args .limit) (c .before .before .before .before .before .before .before .before .before .before .before .before .pre) (c .before .before .before .before .before .before .before .before .replacements .result) (c .before .before .before .before .before .before .before .before .replacements .last .1 .1 .1 .1 .1 .1 .0) _ (c .before .before .before .before .before .before .before .before .replacements .kept .1 .1 .1 .1 .1 .1 .0) refl (c .before .before .before .before .before .before .before .before .replacements .ensures .0) (c .before .before .before .before .before .before .before .before .replacements .ensures .1) (c .before .before .before .before .before .before .before .before .replacements .ensures .2) (c .before .before .before .before .before .if1 .left) in
+    (omega arith, rw (c .before .before .before .weave .kept .1 .1 .0, same-room (c .before .before .before .before .before .before .before .before .before .before .before .before .args .store .now) (c .before .before .before .before .before .before .before .before .before .before .before .before .args .n) (c .before .before .before .before .before .before .before .before .before .before .before .before .args .w) (c .before .before .before .before .before .before .before .before .before .before .before .before .args .g) (c .before .before .before .before .before .before .before .before .before .before .before .before .args .x) (c .before .before .before .before .before .before .before .before .before .before .before .before .args .y) (c .before .before .before .before .before .before .before .before .before .before .before .before .args .end) (c .before .before .before .before .before .before .before .before .before .before .before .before .args .scratch .now) (c .before .before .before .before .before .before .before .before .before .before .before .before .args .limit) (c .before .before .before .before .before .before .before .before .before .before .before .before .pre) (c .before .before .before .before .before .before .before .before .replacements .result) (c .before .before .before .before .before .before .before .before .replacements .last .1 .1 .1 .1 .1 .1 .0) _ (c .before .before .before .before .before .before .before .before .replacements .kept .1 .1 .1 .1 .1 .1 .0) refl (c .before .before .before .before .before .before .before .before .replacements .ensures .0) (c .before .before .before .before .before .before .before .before .replacements .ensures .1) (c .before .before .before .before .before .before .before .before .replacements .ensures .2)) m)
+
+same-length-2 : tie.Need-same-length-2
+same-length-2 c = search needs
+
+returns-2 : tie.Need-returns-2
+returns-2 c =
+    woven-fits (c .before .before .before .before .before .before .before .before .before .before .before .before .before .before .before .args .store .now) (c .before .before .before .before .before .before .before .before .before .before .before .before .before .before .before .args .n) (c .before .before .before .before .before .before .before .before .before .before .before .before .before .before .before .args .w) (c .before .before .before .before .before .before .before .before .before .before .before .before .before .before .before .args .g) (c .before .before .before .before .before .before .before .before .before .before .before .before .before .before .before .args .x) (c .before .before .before .before .before .before .before .before .before .before .before .before .before .before .before .args .y) (c .before .before .before .before .before .before .before .before .before .before .before .before .before .before .before .args .end) (c .before .before .before .before .before .before .before .before .before .before .before .before .before .before .before .args .scratch .now) (c .before .before .before .before .before .before .before .before .before .before .before .before .before .before .before .args .limit) (c .before .before .before .before .before .before .before .before .before .before .before .before .before .before .before .pre) (c .before .before .before .before .before .before .before .before .before .before .before .replacements .result) (c .before .before .before .before .before .before .before .before .before .before .before .replacements .last .1 .1 .1 .1 .1 .1 .0) _ (c .before .before .before .before .before .before .before .before .before .before .before .replacements .kept .1 .1 .1 .1 .1 .1 .0) refl (c .before .before .before .before .before .before .before .before .before .before .before .replacements .ensures .0) (c .before .before .before .before .before .before .before .before .before .before .before .replacements .ensures .1) (c .before .before .before .before .before .before .before .before .before .before .before .replacements .ensures .2) (c .before .before .before .before .before .before .before .before .if1 .left) (c .before .before .before .before .before .before .weave .result) (c .before .before .before .before .before .before .weave .last .1 .1 .0) (c .before .before .clear2 .last .0) (c .before .before .before .before .before .before .weave .ensures .0) (c .before .before .before .before .before .before .weave .ensures .1) (c .before .before .before .before .before .before .weave .kept .1 .1 .0) (c .before .before .clear2 .ensures)
 
 pub gathered-spec : {M : Type 1} → statement M
 gathered-spec =
     tie.close
     (tie.spec
-    slice-aggregate-sign-table
-    sign-table-requires
-    slice-aggregate-mask-table
-    mask-table-requires
-    slice-aggregate-merge
-    slice-aggregate-merge-2
-    slice-aggregate-merge-3
-    merge-requires
+    add-stride
+    mul-base
+    mul-most
+    mul-replacements
+    sub-replacements
+    part-replacements-start
+    part-replacements-end
+    replacements-requires
+    mul-clear
+    add-clear
+    clear-requires
+    add-result
     same-length
-    returns)
+    returns
+    weave-requires
+    mul-clear-2
+    add-clear-2
+    clear-requires-2
+    same-length-2
+    returns-2)

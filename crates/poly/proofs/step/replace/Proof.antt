@@ -6,6 +6,7 @@ use Rattle.rules.specs.Polynomial.{gather}
 use Rattle.rules.specs.Steps.{all-replaced}
 use Rattle.words.specs.Stored.{decoded}
 use Rattle.words.proofs.Stored.{stride-le}
+use Rattle.poly.proofs.Woven.{room}
 use Rattle.poly.proofs.Settled.{zeros-kept, zeros-all, stepped-fits, stepped-full}
 use borrow.Author.Needs.{needs}
 use Rattle.poly.proofs.step.replace.Statement.{statement}
@@ -39,10 +40,10 @@ returns c =
     let a = c .before .before .before .before .before .before .before .before .before .before .before .before .args in
     let p = c .before .before .before .before .before .before .before .before .before .before .before .before .pre in
     let g = c .before .before .before .before .before .before .before .gathered in
-    let k : length (g .last .1 .1 .1 .1 .1 .1 .0) ≡ length (a .scratch .now) = g .kept .1 .1 .1 .1 .1 .1 .0 in
-    let z = zeros-kept (a .limit * (a .w + 1)) (a .scratch .now) (g .last .1 .1 .1 .1 .1 .1 .0) k (p .clean) (g .ensures .1 .many (c .before .before .before .before .if1 .taken)) in
-    stepped-full (a .w) (a .limit) (g .result) (gather (2 ^ a .g .l) (all-replaced (2 ^ a .g .l) (a .g .v) (a .x) (a .y) (decoded (a .w) (a .n) (a .store .now)))) (a .store .now) (a .scratch .now) (g .last .1 .1 .1 .1 .1 .1 .0) (a .store .now) (c .before .before .clear .last .0) (g .ensures .0) (c .before .before .before .before .if1 .taken) refl
-    (rw k at (zeros-all (a .limit * (a .w + 1)) (g .last .1 .1 .1 .1 .1 .1 .0) (c .before .before .clear .last .0) (rw k (p .scratch-room)) z (c .before .before .clear .ensures)))
+    let k : length (g .last .1 .1 .1 .1 .1 .1 .1 .0) ≡ length (a .scratch .now) = g .kept .1 .1 .1 .1 .1 .1 .1 .0 in
+    let z = zeros-kept (a .limit * (a .w + 1)) (a .scratch .now) (g .last .1 .1 .1 .1 .1 .1 .1 .0) k (p .clean) (g .ensures .1 .many (c .before .before .before .before .if1 .taken)) in
+    stepped-full (a .w) (a .limit) (g .result) (gather (2 ^ a .g .l) (all-replaced (2 ^ a .g .l) (a .g .v) (a .x) (a .y) (decoded (a .w) (a .n) (a .store .now)))) (a .store .now) (a .scratch .now) (g .last .1 .1 .1 .1 .1 .1 .1 .0) (a .store .now) (c .before .before .clear .last .0) (g .ensures .0) (c .before .before .before .before .if1 .taken) refl
+    (rw k at (zeros-all (a .limit * (a .w + 1)) (g .last .1 .1 .1 .1 .1 .1 .1 .0) (c .before .before .clear .last .0) (rw k (room (a .store .now) (a .n) (a .w) (a .g) (a .x) (a .y) (a .end) (a .scratch .now) (a .limit) p)) z (c .before .before .clear .ensures)))
 
 settle-requires : tie.Need-settle-requires
 settle-requires c κs =
@@ -50,13 +51,13 @@ settle-requires c κs =
     let p = c .before .before .before .before .before .before .before .before .before .before .pre in
     let g = c .before .before .before .before .before .gathered in
     let l = c .before .before .if1 .left in
-    let k : length (g .last .1 .1 .1 .1 .1 .1 .0) ≡ length (a .scratch .now) = g .kept .1 .1 .1 .1 .1 .1 .0 in (
+    let k : length (g .last .1 .1 .1 .1 .1 .1 .1 .0) ≡ length (a .scratch .now) = g .kept .1 .1 .1 .1 .1 .1 .1 .0 in (
       p .fit .narrow,
       p .fit .room,
       stride-le (g .result) (a .limit) (a .w) (length (a .store .now)) l (p .store-room),
-      rw k (stride-le (g .result) (a .limit) (a .w) (length (a .scratch .now)) l (p .scratch-room)),
+      rw k (stride-le (g .result) (a .limit) (a .w) (length (a .scratch .now)) l (room (a .store .now) (a .n) (a .w) (a .g) (a .x) (a .y) (a .end) (a .scratch .now) (a .limit) p)),
       p .behind,
-      zeros-kept (g .result * (a .w + 1)) (a .scratch .now) (g .last .1 .1 .1 .1 .1 .1 .0) k (p .clean) (g .ensures .1 .few l),
+      zeros-kept (g .result * (a .w + 1)) (a .scratch .now) (g .last .1 .1 .1 .1 .1 .1 .1 .0) k (p .clean) (g .ensures .1 .few l),
     )
 
 same-length-3 : tie.Need-same-length-3
@@ -71,8 +72,8 @@ returns-2 c =
     let p = c .before .before .before .before .before .before .before .before .before .before .before .before .before .before .before .pre in
     let g = c .before .before .before .before .before .before .before .before .before .before .gathered in
     let l = c .before .before .before .before .before .before .before .if1 .left in
-    let k : length (g .last .1 .1 .1 .1 .1 .1 .0) ≡ length (a .scratch .now) = g .kept .1 .1 .1 .1 .1 .1 .0 in
-    stepped-fits (a .w) (a .limit) (g .result) (gather (2 ^ a .g .l) (all-replaced (2 ^ a .g .l) (a .g .v) (a .x) (a .y) (decoded (a .w) (a .n) (a .store .now)))) (a .store .now) (a .scratch .now) (g .last .1 .1 .1 .1 .1 .1 .0) (c .before .before .before .before .settle .last .0) (c .before .before .before .before .settle .last .1 .1 .1 .0) (g .ensures .0) l (λ n. c .before .before .before .before .before .before .before .before .slice-known3 .given n .fits) (rw k (stride-le (g .result) (a .limit) (a .w) (length (a .scratch .now)) l (p .scratch-room)))
+    let k : length (g .last .1 .1 .1 .1 .1 .1 .1 .0) ≡ length (a .scratch .now) = g .kept .1 .1 .1 .1 .1 .1 .1 .0 in
+    stepped-fits (a .w) (a .limit) (g .result) (gather (2 ^ a .g .l) (all-replaced (2 ^ a .g .l) (a .g .v) (a .x) (a .y) (decoded (a .w) (a .n) (a .store .now)))) (a .store .now) (a .scratch .now) (g .last .1 .1 .1 .1 .1 .1 .1 .0) (c .before .before .before .before .settle .last .0) (c .before .before .before .before .settle .last .1 .1 .1 .0) (g .ensures .0) l (λ n. c .before .before .before .before .before .before .before .before .slice-known3 .given n .fits) (rw k (stride-le (g .result) (a .limit) (a .w) (length (a .scratch .now)) l (room (a .store .now) (a .n) (a .w) (a .g) (a .x) (a .y) (a .end) (a .scratch .now) (a .limit) p)))
     (c .before .before .before .before .settle .ensures .0) (rw k at (c .before .before .before .before .settle .ensures .1))
 
 pub replace-spec : {M : Type 1} → statement M

@@ -1,5 +1,6 @@
 -- What is moved, and zeros behind it.
 use Prim.Native.Nat.{_+_, _*_}
+use native.Mathlib.Nat.{zero-add}
 use lib.ListN.{length}
 use Rattle.poly.proofs.Settled.{larger-than, moved, zeros-all}
 use borrow.Author.Needs.{needs}
@@ -34,7 +35,7 @@ clear-requires c κs =
     let p = c .before .before .before .before .before .before .before .before .before .pre in
     let a = c .before .before .before .before .before .before .before .before .before .args in
     let u = larger-than (a .r * (a .w + 1)) (a .n * (a .w + 1)) (c .before .before .before .before .before .before .larger .result) (c .before .before .before .before .before .before .larger .ensures) in
-    (u .0, rw (c .before .before .before .copy .kept .1 .0) (u .2 (length (a .store .now)) (p .2) (p .1)))
+    (u .0, rw (c .before .before .before .copy .kept .1 .1 .0) (u .2 (length (a .store .now)) (p .2) (p .1)))
 
 clear-requires-2 : tie.Need-clear-requires-2
 clear-requires-2 c κs = search needs
@@ -50,7 +51,7 @@ returns c =
     let p = c .before .before .before .before .before .before .before .before .before .before .before .before .before .before .before .before .pre in
     let a = c .before .before .before .before .before .before .before .before .before .before .before .before .before .before .before .before .args in
     let u = larger-than (a .r * (a .w + 1)) (a .n * (a .w + 1)) (c .before .before .before .before .before .before .before .before .before .before .before .before .before .larger .result) (c .before .before .before .before .before .before .before .before .before .before .before .before .before .larger .ensures) in
-    (moved (a .r * (a .w + 1)) (a .n * (a .w + 1)) (c .before .before .before .before .before .before .before .before .before .before .before .before .before .larger .result) (a .store .now) (a .scratch .now) (c .before .before .before .before .before .before .before .before .before .before .copy .last .1 .0) (c .before .before .before .before .before .before .clear .last .0) (u .0) (u .1) (u .2 (length (a .store .now)) (p .2) (p .1)) (p .3) (p .4) (c .before .before .before .before .before .before .before .before .before .before .copy .ensures) (c .before .before .before .before .before .before .clear .ensures), zeros-all (a .r * (a .w + 1)) (a .scratch .now) (c .before .before .clear2 .last .0) (p .3) (p .5) (c .before .before .clear2 .ensures))
+    (moved (a .r * (a .w + 1)) (a .n * (a .w + 1)) (c .before .before .before .before .before .before .before .before .before .before .before .before .before .larger .result) (a .store .now) (a .scratch .now) (c .before .before .before .before .before .before .before .before .before .before .copy .last .1 .1 .0) (c .before .before .before .before .before .before .clear .last .0) (u .0) (u .1) (u .2 (length (a .store .now)) (p .2) (p .1)) (p .3) (p .4) (rw (zero-add (a .r * (a .w + 1))) at (c .before .before .before .before .before .before .before .before .before .before .copy .ensures)) (c .before .before .before .before .before .before .clear .ensures), zeros-all (a .r * (a .w + 1)) (a .scratch .now) (c .before .before .clear2 .last .0) (p .3) (p .5) (c .before .before .clear2 .ensures))
 
 pub settle-spec : {M : Type 1} → statement M
 settle-spec =

@@ -10,12 +10,7 @@ use Rattle.rules.specs.Polynomial.{Polynomial, hit, coefficient-at, Below, Coef
 use Rattle.rules.proofs.Indices.{sum-same}
 use Rattle.rules.proofs.Terms.{hit-zero, weaken, above, coefficient-cons, coefficient-append, coefficient-joined}
 use Rattle.rules.proofs.Gathered.{unique, under-of, gather-below, gather-coefficients, gather-coefficient}
-use Rattle.poly.specs.Streams.{Lows}
-
--- the last set of a list that falls from hi
-unfoldable pub floor : ℕ → Polynomial → ℕ
-floor hi [] = hi
-floor hi (x ∷ p) = floor (x .1) p
+use Rattle.weave.specs.Merging.{Lows, floor, Merging}
 
 -- the last set is at most the bound
 pub floor-le : (hi : ℕ) (p : Polynomial) → Below hi p → floor hi p ≤ hi
@@ -51,13 +46,6 @@ unfolding joined
 under-joined b zero q h = tt
 under-joined b (suc k) q h =
     under-append b (joined k q) (q k) (under-joined b k q (λ j l. h j (omega arith))) (under-of b b (q k) (omega arith) (h k (omega arith)))
-
--- r has been merged into `out`, but for the k lists q
-pub record Merging (m hi k : ℕ) (r out : Polynomial) (q : ℕ → Polynomial) : Type 0 where
-  pub falls : Below hi out
-  pub coefs : Coefficients m out
-  pub lows : Lows (floor hi out) k q
-  pub sums : (u : ℕ) → (coefficient-at out u + sum k (λ j. coefficient-at (q j) u)) % m ≡ coefficient-at r u % m
 
 module _ (m hi k : ℕ) (r : Polynomial) (hm : 0 < m) (hr : Under hi r) where
   -- what is written is the front of the result

@@ -1,0 +1,149 @@
+-- The step woven: what becomes of the terms that hold v was made in scratch behind room for `limit` terms; it is woven into the
+-- others, and cleared.
+use mathlib.Core.Path.{_≡_, refl, ap, _∙_}
+use mathlib.Core.List.{List, _++_}
+use Prim.Native.Nat.{ℕ, _+_, _-_, _*_, _^_, _<_, _≤_}
+use native.Mathlib.Nat.{add-mul, mul-assoc, mul-le-mul-right}
+use native.Mathlib.Omega.{arith}
+use lib.ListN.{length, take, drop, replicate, length-append, length-drop, take-append-drop}
+use lib.Pow.{pow-pos}
+use lib.Seq.{take-all, length-take-le}
+use Rattle.rules.specs.Polynomial.{Polynomial, Below, gather}
+use Rattle.rules.specs.Steps.{all-replaced}
+use Rattle.rules.proofs.Gathered.{gather-coefficients}
+use Rattle.words.specs.Stored.{decoded}
+use Rattle.words.proofs.Stored.{decoded-take, length-decoded, stride-le}
+use Rattle.weave.specs.Written.{Gathered, Behind}
+use Rattle.weave.specs.Weaving.{without, Task}
+use Rattle.weave.proofs.Falling.{below-front, coefficients-take}
+use Rattle.poly.specs.Stepping.{holding, Fit, Prepared}
+use Rattle.poly.specs.declared.streams.Gate.{Gate}
+use Rattle.poly.proofs.Parts.{holding-front, step-parts, step-more}
+use Rattle.poly.proofs.Restored.{part-there, restored, front-stays}
+
+module _ (store : List ℕ) (n w : ℕ) (g : Gate) (x y end : ℕ) (scratch : List ℕ) (limit : ℕ) (h : Prepared store n w g x y end scratch limit) where
+  -- the terms up to the last that holds v are terms of the store
+  end-in : end ≤ n
+  end-in = omega (arith, h .last .high, length-decoded w n store)
+
+  -- they are the first
+  front : decoded w end store ≡ take end (decoded w n store)
+  front = decoded-take w end n store end-in
+
+  -- what the streams ask of them
+  pub front-fit : Fit store end w g x y
+  front-fit = record {
+    room = stride-le end n w (length store) end-in (h .fit .room);
+    narrow = h .fit .narrow;
+    v-in = h .fit .v-in;
+    x-in = h .fit .x-in;
+    y-in = h .fit .y-in;
+    l-high = h .fit .l-high;
+    x-is = h .fit .x-is;
+    y-is = h .fit .y-is;
+    x-off = h .fit .x-off;
+    y-off = h .fit .y-off;
+    apart = h .fit .apart;
+    falls = rw front (below-front (2 ^ (64 * w)) (take end (decoded w n store)) (drop end (decoded w n store)) (rw (take-append-drop end (decoded w n store)) (h .fit .falls)));
+    coefficients = rw front (coefficients-take (2 ^ g .l) end (decoded w n store) (h .fit .coefficients));
+  }
+
+  -- all that hold v are among them
+  same : holding (g .v) (decoded w end store) ≡ holding (g .v) (decoded w n store)
+  same = ap (holding (g .v)) front ∙ holding-front (g .v) end (decoded w n store) (h .last .free)
+
+  -- scratch has room for `limit` terms
+  pub room : limit * (w + 1) ≤ length scratch
+  room = omega (arith, h .scratch-room, mul-assoc 4 limit (w + 1))
+
+  -- and for twice as many behind them
+  pub rooms : limit * (w + 1) + 2 * limit * (w + 1) ≤ length scratch
+  rooms = omega (arith, h .scratch-room, mul-assoc 4 limit (w + 1), mul-assoc 2 limit (w + 1))
+
+  -- the part of scratch behind them
+  pub part-room : 2 * limit * (w + 1) ≤ length (take (length scratch - limit * (w + 1)) (drop (limit * (w + 1)) scratch))
+  part-room = rw (take-all (length scratch - limit * (w + 1)) (drop (limit * (w + 1)) scratch) (simp length-drop (omega arith))) (simp length-drop (omega (arith, rooms)))
+
+  -- what was made there, and scratch then
+  module _ (made : ℕ) (part s1 : List ℕ) (lp : length part ≡ length (take (length scratch - limit * (w + 1)) (drop (limit * (w + 1)) scratch)))
+      (e1 : s1 ≡ take (limit * (w + 1)) scratch ++ (part ++ drop (length scratch - limit * (w + 1)) (drop (limit * (w + 1)) scratch)))
+      (gs : Gathered (2 * limit) (gather (2 ^ g .l) (all-replaced (2 ^ g .l) (g .v) x y (holding (g .v) (decoded w end store)))) (decoded w made part) made)
+      (fs : made ≤ 2 * limit → Below (2 ^ (64 * w)) (decoded w made part))
+      (bs : Behind w (2 * limit) made (take (length scratch - limit * (w + 1)) (drop (limit * (w + 1)) scratch)) part) where
+    -- the part before it was written
+    before : take (length scratch - limit * (w + 1)) (drop (limit * (w + 1)) scratch) ≡ drop (limit * (w + 1)) scratch
+    before = take-all (length scratch - limit * (w + 1)) (drop (limit * (w + 1)) scratch) (simp length-drop (omega arith))
+
+    -- its length
+    part-length : length part ≡ length scratch - limit * (w + 1)
+    part-length = lp ∙ ap length before ∙ simp length-drop refl
+
+    -- it stands behind room for `limit` terms
+    there : drop (limit * (w + 1)) s1 ≡ part
+    there = part-there (limit * (w + 1)) scratch part s1 room part-length e1
+
+    -- scratch keeps its length
+    pub same-room : length s1 ≡ length scratch
+    same-room = rw e1 (simp (length-append, length-drop, length-take-le (limit * (w + 1)) scratch room, part-length) (omega (arith, rooms)))
+
+    -- made terms take as many words as they are
+    pub made-room : made ≤ 2 * limit → limit * (w + 1) + made * (w + 1) ≤ length scratch
+    made-room l = omega (arith, rooms, mul-le-mul-right (w + 1) l)
+
+    -- what the weave asks
+    pub task : made ≤ 2 * limit → Task (record { n = n; w = w; k = w; v = g .v; l = g .l; end = end; made = made; limit = limit }) store s1
+    task l = record {
+      room = h .fit .room;
+      scratch-room = rw (add-mul limit made (w + 1), same-room) (made-room l);
+      narrow = h .fit .narrow;
+      v-in = h .fit .v-in;
+      short = omega arith;
+      l-high = h .fit .l-high;
+      end-in = end-in;
+      free = λ i a b. h .last .free i a (omega (arith, length-decoded w n store));
+      falls = h .fit .falls;
+      coefficients = h .fit .coefficients;
+      new-falls = rw there (fs l);
+      new-coefficients = rw (there, gs .fits l) (gather-coefficients (2 ^ g .l) (all-replaced (2 ^ g .l) (g .v) x y (holding (g .v) (decoded w end store))) (pow-pos (g .l)));
+    }
+
+    -- words behind what was made are as they were
+    kept : (d : ℕ) → drop d part ≡ drop d (take (length scratch - limit * (w + 1)) (drop (limit * (w + 1)) scratch)) → drop d part ≡ drop d (drop (limit * (w + 1)) scratch)
+    kept d e = e ∙ ap (λ (s : List ℕ). drop d s) before
+
+    -- too many were made: so are those of the step, and what was made is cleared
+    pub woven-full : 2 * limit < made → (s3 : List ℕ) → s3 ≡ take (limit * (w + 1)) s1 ++ (replicate (limit * (w + 1) + 2 * limit * (w + 1) - limit * (w + 1)) 0 ++ drop (limit * (w + 1) + 2 * limit * (w + 1)) s1)
+        → Gathered limit (gather (2 ^ g .l) (all-replaced (2 ^ g .l) (g .v) x y (decoded w n store))) (decoded w (limit + 1) s3) (limit + 1) × Behind w limit (limit + 1) scratch s3
+    woven-full l s3 e3 = (
+      record {
+        most = omega arith;
+        fits = λ k. absurd (omega arith);
+        full = λ k. step-more (2 ^ g .l) (g .v) x y limit (decoded w n store) (pow-pos (g .l)) (omega (arith, length-decoded w n store, h .few)) (rw same at (gs .full l));
+      },
+      record {
+        few = λ k. absurd (omega arith);
+        many = λ k. restored (limit * (w + 1)) scratch part s1 room part-length e1 (limit * (w + 1)) (2 * limit * (w + 1)) s1 s3 (h .clean) (omega arith) (omega (arith, rooms)) (kept (2 * limit * (w + 1)) (bs .many l)) same-room refl e3;
+      },
+    )
+
+    -- the woven terms are those of the step, and what was made is cleared
+    pub woven-fits : made ≤ 2 * limit → (r : ℕ) (s2 s3 : List ℕ)
+        → Gathered limit (gather (2 ^ g .l) (without (g .v) (decoded w n store) ++ decoded w made (drop (limit * (w + 1)) s1))) (decoded w r s2) r → Behind w limit r s1 s2
+        → length s2 ≡ length s1 → s3 ≡ take (limit * (w + 1)) s2 ++ (replicate (limit * (w + 1) + made * (w + 1) - limit * (w + 1)) 0 ++ drop (limit * (w + 1) + made * (w + 1)) s2)
+        → Gathered limit (gather (2 ^ g .l) (all-replaced (2 ^ g .l) (g .v) x y (decoded w n store))) (decoded w r s3) r × Behind w limit r scratch s3
+    woven-fits l r s2 s3 gw bw l2 e3 =
+        let new : decoded w made (drop (limit * (w + 1)) s1) ≡ gather (2 ^ g .l) (all-replaced (2 ^ g .l) (g .v) x y (holding (g .v) (decoded w n store))) = rw (there, ← same) (gs .fits l) in
+        let e : gather (2 ^ g .l) (without (g .v) (decoded w n store) ++ decoded w made (drop (limit * (w + 1)) s1)) ≡ gather (2 ^ g .l) (all-replaced (2 ^ g .l) (g .v) x y (decoded w n store)) =
+        ap (λ (q : Polynomial). gather (2 ^ g .l) (without (g .v) (decoded w n store) ++ q)) new ∙ step-parts (2 ^ g .l) (g .v) x y (pow-pos (g .l)) (decoded w n store) in
+        let back : (k : ℕ) → k ≤ limit * (w + 1) → drop k s2 ≡ drop k s1 → drop k s3 ≡ drop k scratch = λ k a f.
+        restored (limit * (w + 1)) scratch part s1 room part-length e1 k (made * (w + 1)) s2 s3 (h .clean) a (omega (arith, made-room l)) (kept (made * (w + 1)) (bs .few l)) (l2 ∙ same-room) f e3 in (
+          record {
+            most = gw .most;
+            fits = λ k. front-stays (limit * (w + 1)) scratch part s1 room part-length e1 (r * (w + 1)) (made * (w + 1)) s2 s3 (h .clean) (mul-le-mul-right (w + 1) k) (omega (arith, made-room l)) (kept (made * (w + 1)) (bs .few l)) (l2 ∙ same-room) (bw .few k) e3 w r (mul-le-mul-right (w + 1) k) ∙ gw .fits k ∙ e;
+            full = λ k. rw e at (gw .full k);
+          },
+          record {
+            few = λ k. back (r * (w + 1)) (mul-le-mul-right (w + 1) k) (bw .few k);
+            many = λ k. back (limit * (w + 1)) (omega arith) (bw .many k);
+          },
+        )

@@ -1,0 +1,75 @@
+-- The turns, one after another.
+use mathlib.Core.Path.{_≡_, refl, ap, _∙_}
+use mathlib.Core.Bool.{true, false}
+use mathlib.Core.List.{List, _++_}
+use mathlib.Core.Logic.{⊎-elim}
+use Prim.Native.Nat.{ℕ, _+_, _*_, _^_, _<_, _≤_}
+use lib.ListN.{length, drop}
+use Rattle.rules.specs.Polynomial.{gather}
+use Rattle.words.specs.Stored.{decoded}
+use Rattle.words.proofs.Stored.{length-decoded}
+use Rattle.weave.specs.Seeking.{Stop}
+use Rattle.weave.specs.Weaving.{old-terms, new-terms, without, Task, State, Midway, Turned, going-on}
+use Rattle.weave.specs.Written.{Behind, Gathered}
+use Rattle.weave.specs.declared.weaving.Place.{Place}
+use Rattle.weave.specs.declared.weaving.Sizes.{Sizes}
+use Rattle.weave.proofs.Growing.{behind-none, behind-limit, behind-after}
+use Rattle.weave.proofs.States.{gone-on, still-going, state-begin, state-end, state-full}
+
+-- what the turns from scratch₀ on have left
+pub record Underway (z : Sizes) (store scratch₀ scratch : List ℕ) (k : Place) : Type 0 where
+  pub same-length : length scratch ≡ length scratch₀
+  pub state : State z (old-terms z store) (new-terms z scratch₀) k (decoded (z .w) (k .out) scratch)
+  pub behind : Behind (z .w) (z .limit) (k .out) scratch₀ scratch
+
+module _ (z : Sizes) (store scratch₀ : List ℕ) (t : Task z store scratch₀) where
+  -- before the first turn
+  pub underway-begin : (stop : ℕ) → Stop (z .v) (old-terms z store) 0 stop → Underway z store scratch₀ scratch₀ (record { at = 0; stop = stop; used = 0; out = 0 })
+  unfolding decoded
+  underway-begin stop s = record {
+    same-length = refl;
+    state = state-begin z (old-terms z store) (new-terms z scratch₀) (length-decoded (z .w) (z .n) store) (length-decoded (z .w) (z .made) (drop (z .limit * (z .w + 1)) scratch₀)) (t .falls) (t .new-falls) stop s;
+    behind = behind-none (z .w) (z .limit) scratch₀;
+  }
+
+  module _ (scratch : List ℕ) (k : Place) (h : Underway z store scratch₀ scratch k) where
+    -- the new terms are as they were
+    new-same : new-terms z scratch ≡ new-terms z scratch₀
+    new-same = ap (decoded (z .w) (z .made)) (behind-limit (z .w) (z .limit) (k .out) scratch₀ scratch (h .behind))
+
+    -- what a turn asks
+    pub underway-turn : going-on z k ≡ true → Midway z store scratch k
+    underway-turn g = record {
+      task = record {
+        room = t .room;
+        scratch-room = rw (h .same-length) (t .scratch-room);
+        narrow = t .narrow;
+        v-in = t .v-in;
+        short = t .short;
+        l-high = t .l-high;
+        end-in = t .end-in;
+        free = t .free;
+        falls = t .falls;
+        coefficients = t .coefficients;
+        new-falls = rw new-same (t .new-falls);
+        new-coefficients = rw new-same (t .new-coefficients);
+      };
+      state = rw new-same (h .state);
+      fits = still-going z k g .0;
+    }
+
+    -- after it
+    pub underway-on : (scratch′ : List ℕ) (r : Place) → going-on z k ≡ true → length scratch′ ≡ length scratch → Turned z store scratch k r scratch′ → Underway z store scratch₀ scratch′ r
+    underway-on scratch′ r g l e = record {
+      same-length = l ∙ h .same-length;
+      state = rw new-same at (e .state);
+      behind = behind-after (z .w) (z .limit) (k .out) (r .out) scratch₀ scratch scratch′ (still-going z k g .0) (e .grows) (h .behind) (e .behind);
+    }
+
+    -- after the last
+    pub underway-end : going-on z k ≡ false
+        → Gathered (z .limit) (gather (2 ^ z .l) (without (z .v) (old-terms z store) ++ new-terms z scratch₀)) (decoded (z .w) (k .out) scratch) (k .out)
+    underway-end g = ⊎-elim
+        (λ (l : z .limit < k .out). state-full z (old-terms z store) (new-terms z scratch₀) (length-decoded (z .w) (z .n) store) (length-decoded (z .w) (z .made) (drop (z .limit * (z .w + 1)) scratch₀)) (t .falls) (t .new-falls) k (decoded (z .w) (k .out) scratch) (h .state) l)
+        (λ (l : (z .n ≤ k .at) × (z .made ≤ k .used)). state-end z (old-terms z store) (new-terms z scratch₀) (length-decoded (z .w) (z .n) store) (length-decoded (z .w) (z .made) (drop (z .limit * (z .w + 1)) scratch₀)) (t .falls) (t .new-falls) k (decoded (z .w) (k .out) scratch) (h .state) (l .0) (l .1))
+        (gone-on z k g)

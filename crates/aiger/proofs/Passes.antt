@@ -6,11 +6,15 @@ use native.Mathlib.Nat.{zero-add}
 use lib.ListN.{length, take, drop, length-append}
 use lib.Seq.{take-at, drop-drop, drop-append-add}
 use Rattle.rules.specs.Says.{text-says}
-use Rattle.rules.specs.Reading.{output-line, gate-line, lines, refused, reading, reading-says, table-after, ReadAs}
+use Rattle.rules.specs.Reading.{Scan, found, output-line, gate-line, lines, refused, reading, reading-says, table-after, ReadAs}
 use Rattle.rules.specs.declared.answers.Text.the-variants.{Read, Refused}
 use Rattle.rules.specs.declared.counts.Counts.{Counts}
 use Rattle.aiger.specs.Checked.{RightText}
-use Rattle.aiger.specs.Stored.{Stored}
+use Rattle.aiger.specs.Stored.{Finds, Stored}
+
+-- what lines give, they find
+pub finds : {lines : Scan} {words rest : List ℕ} → lines ≡ found words rest → Finds lines
+finds e = rw e tt
 
 -- words in front, and then words behind them
 two-parts : (table first second : List ℕ) {between exit : List ℕ} (o n : ℕ) → length first ≡ o → length second ≡ n

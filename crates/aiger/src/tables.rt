@@ -3,7 +3,7 @@ ghost use mathlib.Core.Path.{_≡_};
 ghost use Prim.Native.Nat.{_+_, _*_, _≤_};
 ghost use lib.ListN.{length, drop};
 ghost use Rattle.rules.specs.Reading.{output-line, gate-line, lines};
-ghost use Rattle.aiger.specs.Stored.{Stored};
+ghost use Rattle.aiger.specs.Stored.{Finds, Stored};
 use crate::fields::Value;
 use crate::lines::Gate;
 use crate::lines::gate_line;
@@ -12,7 +12,7 @@ use rules::counts::Counts;
 
 // Stores the literals of the outputs in front, and gives the place behind their lines.
 pub fn store_outputs(text: &[u8], at: usize, c: Counts, table: &mut [u32]) -> usize
-    requires { ⌜ c .o ≤ length (now table) ⌝ }
+    requires { ⌜ (c .o ≤ length (now table)) × Finds (lines (c .o) (output-line c) (drop at (now text))) ⌝ }
     ensures { λ r. ⌜ Stored (lines (c .o) (output-line c) (drop at (now (text .entry)))) (drop r (now (text .entry))) 0 (c .o) (now (table .entry)) (now (table .exit)) ⌝ }
 {
     let count = c.o;
@@ -33,7 +33,7 @@ pub fn store_outputs(text: &[u8], at: usize, c: Counts, table: &mut [u32]) -> us
 
 // Stores the two literals of each gate behind the outputs, and gives the place behind their lines.
 pub fn store_gates(text: &[u8], at: usize, c: Counts, table: &mut [u32]) -> usize
-    requires { ⌜ c .o + 2 * c .a ≤ length (now table) ⌝ }
+    requires { ⌜ (c .o + 2 * c .a ≤ length (now table)) × Finds (lines (c .a) (gate-line c) (drop at (now text))) ⌝ }
     ensures { λ r. ⌜ Stored (lines (c .a) (gate-line c) (drop at (now (text .entry)))) (drop r (now (text .entry))) (c .o) (2 * c .a) (now (table .entry)) (now (table .exit)) ⌝ }
 {
     let count = c.a;

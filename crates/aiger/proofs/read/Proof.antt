@@ -4,7 +4,7 @@ use lib.ListN.{length, drop}
 use borrow.Author.Needs.{needs}
 use Rattle.rules.specs.Netlist.{needed}
 use Rattle.aiger.specs.Checked.{RightText}
-use Rattle.aiger.proofs.Passes.{read-refused, read-right}
+use Rattle.aiger.proofs.Passes.{finds, read-refused, read-right}
 use Rattle.aiger.proofs.read.Statement.{statement}
 use Rattle.aiger.proofs.read.Tie as tie
 
@@ -28,13 +28,14 @@ store-outputs-requires : tie.Need-store-outputs-requires
 unfolding needed
 store-outputs-requires c κs =
     let r = right (c .before) in
-    omega (arith, r .room)
+    (omega (arith, r .room), finds (r .outputs-found))
 
 store-gates-requires : tie.Need-store-gates-requires
 unfolding needed
 store-gates-requires c κs =
     let r = right (c .before .before .before .before .before) in
-    omega (arith, r .room, c .before .before .before .store-outputs .kept .1 .1 .1 .0)
+    let behind = c .before .before .before .store-outputs .ensures (r .outputs) (r .rest) (r .outputs-found) .behind in
+    (omega (arith, r .room, c .before .before .before .store-outputs .kept .1 .1 .1 .0), finds (rw behind at (r .gates-found)))
 
 returns : tie.Need-returns
 returns c =

@@ -87,7 +87,7 @@ stepped-same w l v x y limit held store scratch h end o z =
     }
 
 -- the literals brought apart
-module _ (w l v x y limit held end : ℕ) (store scratch : List ℕ) (h : Ready w l v x y limit held store scratch) (o : Last v (decoded w held store) end) (p : Pair) (a : Apart x y p) where
+module _ (w l v x y limit held end : ℕ) (store scratch : List ℕ) (h : Ready w l v x y limit held store scratch) (o : Last v (decoded w held store) end) (z : end ≡ 0 → ⊥) (p : Pair) (a : Apart x y p) where
   -- the terms held lie inside the store
   room : held * (w + 1) ≤ length store
   room = stride-le held limit w (length store) (h .held-most) (h .store-room)
@@ -100,19 +100,18 @@ module _ (w l v x y limit held end : ℕ) (store scratch : List ℕ) (h : Ready 
       room = room;
       narrow = h .narrow;
       v-in = h .v-in;
-      x-in = omega (arith, a .x-low, h .x-low, h .v-in);
-      y-in = omega (arith, a .y-low, h .y-low, h .v-in);
       l-high = h .l-high;
       x-is = refl;
       y-is = refl;
-      x-off = λ e. omega (arith, a .x-low, h .x-low);
-      y-off = λ e. omega (arith, a .y-low, h .y-low);
+      x-low = omega (arith, a .x-low, h .x-low);
+      y-low = omega (arith, a .y-low, h .y-low);
       apart = a .apart;
       falls = h .falls;
       coefficients = h .coefficients;
     };
     few = h .held-most;
     last = o;
+    some = omega (arith, z);
     store-room = h .store-room;
     scratch-room = h .scratch-room;
     behind = rw (length-decoded w held store) at (zeros-behind w store (decoded w held store) (h .kept));

@@ -25,6 +25,7 @@ use Rattle.poly.specs.Signs.{factor, sign-product, sign, sign-at, mask-o
 use Rattle.poly.specs.Streams.{mask-at, turned-by, Held, Turned, Masked, Tables, stream, streams}
 use Rattle.poly.specs.Stepping.{holding, Fit}
 use Rattle.poly.specs.declared.streams.Gate.{Gate}
+use Rattle.weave.proofs.Falling.{coefficients-at}
 use Rattle.weave.proofs.Fronts.{under-joined}
 use Rattle.poly.proofs.Joins.{step-streams, stream-falls}
 use Rattle.poly.proofs.Replacing.{Small, alike-same, alike-against}
@@ -154,12 +155,6 @@ pub mask-none : (w n j : ℕ) → mask-at w (replicate n 0) j ≡ 0
 unfolding mask-at
 mask-none w n j = let r = take-zeros w (n - j * w) in rw (drop-zeros (j * w) n, r .1) (num-zeros (r .0))
 
--- a coefficient of a polynomial
-coefficient-in : (m i : ℕ) (p : Polynomial) → Coefficients m p → i < length p → (0 < getD p i (0, 0) .0) × (getD p i (0, 0) .0 < m)
-coefficient-in m i [] h l = absurd (omega arith)
-coefficient-in m zero (x ∷ p) h l = (h .0, h .1)
-coefficient-in m (suc i) (x ∷ p) h l = coefficient-in m i p (h .2) (omega arith)
-
 -- coefficients below m are at most m
 pub small-of : (m : ℕ) (p : Polynomial) → Coefficients m p → Small m p
 small-of m [] h = tt
@@ -182,12 +177,12 @@ module _ (store : List ℕ) (n w : ℕ) (g : Gate) (x y : ℕ) (r : Fit store n 
     room = r .room;
     narrow = r .narrow;
     v-in = r .v-in;
-    x-in = r .x-in;
-    y-in = r .y-in;
+    x-in = omega (arith, r .x-low, r .v-in);
+    y-in = omega (arith, r .y-low, r .v-in);
     l-high = r .l-high;
     table = ls;
-    some = λ i l. rw (decoded-at w n i store l) at (coefficient-in (2 ^ g .l) i (decoded w n store) (r .coefficients) (omega (arith, length-decoded w n store)) .0);
-    small = λ i l. rw (decoded-at w n i store l) at (coefficient-in (2 ^ g .l) i (decoded w n store) (r .coefficients) (omega (arith, length-decoded w n store)) .1);
+    some = λ i l. rw (decoded-at w n i store l) at (coefficients-at (2 ^ g .l) i (decoded w n store) (r .coefficients) (omega (arith, length-decoded w n store)) .0);
+    small = λ i l. rw (decoded-at w n i store l) at (coefficients-at (2 ^ g .l) i (decoded w n store) (r .coefficients) (omega (arith, length-decoded w n store)) .1);
   }
 
   -- the tables are those of the gate
@@ -196,8 +191,8 @@ module _ (store : List ℕ) (n w : ℕ) (g : Gate) (x y : ℕ) (r : Fit store n 
   tables = record {
     x-is = r .x-is;
     y-is = r .y-is;
-    x-off = r .x-off;
-    y-off = r .y-off;
+    x-off = λ e. omega (arith, r .x-low);
+    y-off = λ e. omega (arith, r .y-low);
     apart = r .apart;
     signed = λ rx ry j a b c.
         let e1 : ((rx + 2 * ry) * 4 + j) / 4 % 2 ≡ rx = omega arith in
@@ -207,12 +202,15 @@ module _ (store : List ℕ) (n w : ℕ) (g : Gate) (x y : ℕ) (r : Fit store n 
     masked = hm;
   }
 
-  -- every stream falls
+  -- every stream falls below a power of two that is above all sets and v
+  lows-under : (e : ℕ) → g .v < e → Below (2 ^ e) (decoded w n store) → Lows (2 ^ e) 4 (λ j. stream g signs (mask-at w masks) j (decoded w n store))
+  lows-under e v b j l =
+      stream-falls g x y signs (mask-at w masks) tables e j l (decoded w n store) (2 ^ e) b (under-of (2 ^ e) (2 ^ e) (decoded w n store) (omega arith) b)
+      (rw (hm j l) (mask-lt e (g .v) (g .x) (g .y) j v (omega (arith, r .x-low)) (omega (arith, r .y-low))))
+
+  -- so below what the words of a set hold
   pub lows : Lows (2 ^ (64 * w)) 4 (λ j. stream g signs (mask-at w masks) j (decoded w n store))
-  lows j l =
-      stream-falls g x y signs (mask-at w masks) tables (64 * w) j l (decoded w n store) (2 ^ (64 * w)) (r .falls)
-      (under-of (2 ^ (64 * w)) (2 ^ (64 * w)) (decoded w n store) (omega arith) (r .falls))
-      (rw (hm j l) (mask-lt (64 * w) (g .v) (g .x) (g .y) j (r .v-in) (r .x-in) (r .y-in)))
+  lows = lows-under (64 * w) (r .v-in) (r .falls)
 
   -- the streams gathered are what becomes of the terms that hold v
   same : gather (2 ^ g .l) (streams g signs (mask-at w masks) 4 (decoded w n store)) ≡ gather (2 ^ g .l) (all-replaced (2 ^ g .l) (g .v) x y (holding (g .v) (decoded w n store)))
@@ -223,7 +221,7 @@ module _ (store : List ℕ) (n w : ℕ) (g : Gate) (x y : ℕ) (r : Fit store n 
     pub gathered : Gathered limit (gather (2 ^ g .l) (all-replaced (2 ^ g .l) (g .v) x y (holding (g .v) (decoded w n store)))) out o
     gathered = record { most = h .most; fits = λ l. h .fits l ∙ same; full = λ l. rw same at (h .full l) }
 
-    -- and it falls
-    pub falls : o ≤ limit → Below (2 ^ (64 * w)) out
+    -- and it falls as they do
+    pub falls : (e : ℕ) → g .v < e → Below (2 ^ e) (decoded w n store) → o ≤ limit → Below (2 ^ e) out
     unfolding streams
-    falls l = rw (h .fits l) (gather-below (2 ^ g .l) (2 ^ (64 * w)) (joined 4 (λ j. stream g signs (mask-at w masks) j (decoded w n store))) (under-joined (2 ^ (64 * w)) 4 (λ j. stream g signs (mask-at w masks) j (decoded w n store)) lows))
+    falls e v b l = rw (h .fits l) (gather-below (2 ^ g .l) (2 ^ e) (joined 4 (λ j. stream g signs (mask-at w masks) j (decoded w n store))) (under-joined (2 ^ e) 4 (λ j. stream g signs (mask-at w masks) j (decoded w n store)) (lows-under e v b)))

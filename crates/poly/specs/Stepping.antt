@@ -18,28 +18,27 @@ unfoldable pub holding : ℕ → Polynomial → Polynomial
 holding v [] = []
 holding v (t ∷ p) = cond (eqb (bit (t .1) v) 1) (t ∷ holding v p) (holding v p)
 
--- a polynomial of n terms is held, and the literals x and y are over the gate's variables: two, neither of them v, or 0
+-- a polynomial of n terms is held, and the literals x and y are over the gate's variables: two below v, or 0
 pub record Fit (store : List ℕ) (n w : ℕ) (g : Gate) (x y : ℕ) : Type 0 where
   pub room : n * (w + 1) ≤ length store
   pub narrow : w ≤ 16
   pub v-in : g .v < 64 * w
-  pub x-in : g .x < 64 * w
-  pub y-in : g .y < 64 * w
   pub l-high : g .l ≤ 64
   pub x-is : g .x ≡ variable x
   pub y-is : g .y ≡ variable y
-  pub x-off : g .x ≡ g .v → ⊥
-  pub y-off : g .y ≡ g .v → ⊥
+  pub x-low : g .x < g .v
+  pub y-low : g .y < g .v
   pub apart : g .x ≡ g .y → g .y ≡ 0
   pub falls : Below (2 ^ (64 * w)) (decoded w n store)
   pub coefficients : Coefficients (2 ^ g .l) (decoded w n store)
 
--- and no term from `end` on holds the gate's variable; there is room for `limit` terms in the store, and for four times as many in
--- scratch, with zeros in both wherever no term is
+-- and some term holds the gate's variable, but none from `end` on; there is room for `limit` terms in the store, and for four
+-- times as many in scratch, with zeros in both wherever no term is
 pub record Prepared (store : List ℕ) (n w : ℕ) (g : Gate) (x y end : ℕ) (scratch : List ℕ) (limit : ℕ) : Type 0 where
   pub fit : Fit store n w g x y
   pub few : n ≤ limit
   pub last : Last (g .v) (decoded w n store) end
+  pub some : 0 < end
   pub store-room : limit * (w + 1) ≤ length store
   pub scratch-room : 4 * limit * (w + 1) ≤ length scratch
   pub behind : drop (n * (w + 1)) store ≡ replicate (length store - n * (w + 1)) 0

@@ -77,7 +77,8 @@ fn added(c: u64, k: u8, x: u64, l: u32) -> u64
     words::coefficients::difference(c, x, l)
 }
 
-// Whether the set at i under the mask at a is the one at h under the mask at b; the best head is compared with itself in every turn.
+// Whether the set at i under the mask at a is the one at h under the mask at b. Every sweep compares the best head with itself: the
+// same place needs no look.
 fn same(store: &[u64], i: usize, h: usize, masks: &[u64], a: usize, b: usize, w: usize) -> bool
     requires { ⌜ (i + w ≤ length (now store)) × (h + w ≤ length (now store)) × (a + w ≤ length (now masks)) × (b + w ≤ length (now masks)) ⌝ }
     ensures { λ r. ⌜ r ≡ eqb (num (masked (words-at (now (store .entry)) i w) (words-at (now (masks .entry)) a w))) (num (masked (words-at (now (store .entry)) h w) (words-at (now (masks .entry)) b w))) ⌝ }

@@ -2,7 +2,7 @@
 ghost use mathlib.Core.Path.{_≡_};
 ghost use mathlib.Core.Bool.{cond};
 ghost use mathlib.Core.List.{_++_};
-ghost use Prim.Native.Nat.{_+_, _-_, _*_, _^_, _<_, _≤_};
+ghost use Prim.Native.Nat.{ℕ, _+_, _-_, _*_, _^_, _<_, _≤_};
 ghost use lib.Dec.{ltb};
 ghost use lib.ListN.{length, take, drop, replicate};
 ghost use Rattle.rules.specs.Polynomial.{Below, gather};
@@ -27,7 +27,7 @@ fn replacements(
 ) -> usize
     requires { ⌜ Fit (now store) n w g x y × (limit * (w + 1) ≤ length (now scratch)) ⌝ }
     ensures { λ r. ⌜ Gathered limit (gather (2 ^ g .l) (all-replaced (2 ^ g .l) (g .v) x y (holding (g .v) (decoded w n (now (store .entry)))))) (decoded w r (now (scratch .exit))) r
-        × (r ≤ limit → Below (2 ^ (64 * w)) (decoded w r (now (scratch .exit))))
+        × ((e : ℕ) → g .v < e → Below (2 ^ e) (decoded w n (now (store .entry))) → r ≤ limit → Below (2 ^ e) (decoded w r (now (scratch .exit))))
         × Behind w limit r (now (scratch .entry)) (now (scratch .exit)) ⌝ }
 {
     let mut signs = [0u8; 16];
@@ -64,10 +64,11 @@ fn gathered(
         words::stretches::clear(scratch, base, base + most * stride);
         return limit + 1;
     }
+    let k = weave::seeking::words_used(store, n, w);
     let sizes = Sizes {
         n,
         w,
-        k: w,
+        k,
         v: g.v,
         l: g.l,
         end,

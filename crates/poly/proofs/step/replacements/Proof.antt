@@ -27,7 +27,7 @@ slice-aggregate-mask-table c = search needs
 mask-table-requires : tie.Need-mask-table-requires
 mask-table-requires c κs =
     let p = c .before .before .before .before .before .before .pre .0 in
-    (omega (arith, p .narrow), p .v-in, p .x-in, p .y-in, λ j l. mask-none (c .before .before .before .before .before .before .args .w) 64 j)
+    (omega (arith, p .narrow), p .v-in, omega (arith, p .x-low, p .v-in), omega (arith, p .y-low, p .v-in), λ j l. mask-none (c .before .before .before .before .before .before .args .w) 64 j)
 
 slice-aggregate-merge : tie.Need-slice-aggregate-merge
 slice-aggregate-merge c = search needs

@@ -37,7 +37,7 @@ cast-t22 c = search needs
 replace-requires : tie.Need-replace-requires
 replace-requires c κs =
     let a = c .before .before .before .before .before .before .before .before .args in
-    to-replace (a .w) (a .l) (a .v) (a .x) (a .y) (a .limit) (a .held) (c .before .before .before .before .last-holding .result) (a .store .now) (a .scratch .now) (c .before .before .before .before .before .before .before .before .pre) (c .before .before .before .before .last-holding .ensures) (c .before .before .apart .result) (c .before .before .apart .ensures)
+    to-replace (a .w) (a .l) (a .v) (a .x) (a .y) (a .limit) (a .held) (c .before .before .before .before .last-holding .result) (a .store .now) (a .scratch .now) (c .before .before .before .before .before .before .before .before .pre) (c .before .before .before .before .last-holding .ensures) (c .before .before .before .if1 .left) (c .before .before .apart .result) (c .before .before .apart .ensures)
 
 same-length-2 : tie.Need-same-length-2
 same-length-2 c = search needs
@@ -48,7 +48,7 @@ same-length-3 c = search needs
 returns-2 : tie.Need-returns-2
 returns-2 c =
     let a = c .before .before .before .before .before .before .before .before .before .before .before .before .before .args in
-    rw (same-step (a .w) (a .l) (a .v) (a .x) (a .y) (a .limit) (a .held) (c .before .before .before .before .before .before .before .before .before .last-holding .result) (a .store .now) (a .scratch .now) (c .before .before .before .before .before .before .before .before .before .before .before .before .before .pre) (c .before .before .before .before .before .before .before .before .before .last-holding .ensures) (c .before .before .before .before .before .before .before .apart .result) (c .before .before .before .before .before .before .before .apart .ensures)) at (c .before .before .before .before .replace .ensures)
+    rw (same-step (a .w) (a .l) (a .v) (a .x) (a .y) (a .limit) (a .held) (c .before .before .before .before .before .before .before .before .before .last-holding .result) (a .store .now) (a .scratch .now) (c .before .before .before .before .before .before .before .before .before .before .before .before .before .pre) (c .before .before .before .before .before .before .before .before .before .last-holding .ensures) (c .before .before .before .before .before .before .before .before .if1 .left) (c .before .before .before .before .before .before .before .apart .result) (c .before .before .before .before .before .before .before .apart .ensures)) at (c .before .before .before .before .replace .ensures)
 
 pub step-spec : {M : Type 1} → statement M
 step-spec =

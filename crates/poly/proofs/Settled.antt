@@ -1,13 +1,14 @@
 -- Laws of the step in the store: the look for v, and what is moved and cleared.
 use mathlib.Core.Path.{_≡_, refl, ap, sym, _∙_}
 use mathlib.Core.Bool.{Bool, true, false, cond}
-use mathlib.Core.List.{List, _++_}
+use mathlib.Core.List.{List, _++_, append-assoc}
 use Prim.Native.Nat.{ℕ, _+_, _-_, _*_, _/_, _^_, _<_, _≤_}
+use native.Mathlib.Nat.{sub-zero}
 use native.Mathlib.Omega.{arith}
 use lib.Dec.{ltb, leb}
-use lib.ListN.{length, getD, take, drop, replicate, replicate-append-replicate}
+use lib.ListN.{length, getD, take, drop, replicate, length-replicate, replicate-append-replicate}
 use lib.Pow.{pow-pos}
-use lib.Seq.{drop-drop, take-at, drop-at, length-take-le}
+use lib.Seq.{drop-drop, take-add, take-at, drop-at, length-take-le}
 use borrow.Author.Tests.{ltb-true, ltb-false, le-leb, lt-leb}
 use Rattle.rules.specs.Judging.{polynomial-words, padded}
 use Rattle.rules.specs.Netlist.{variable}
@@ -32,6 +33,39 @@ larger-than a b u e = go (ltb a b) refl e
     go true d f = let l : a < b = ltb-true a b d in (omega arith, omega arith, λ c p q. omega arith)
     go false d f = let l : b ≤ a = ltb-false a b d in (omega arith, omega arith, λ c p q. omega arith)
 
+-- the least of two numbers; not 0 if neither is
+pub least-of : (a b u : ℕ) → u ≡ cond (ltb a b) a b → (u ≤ a) × (0 < a → 0 < b → 0 < u)
+least-of a b u e = go (ltb a b) refl e
+  where
+    go : (t : Bool) → ltb a b ≡ t → u ≡ cond t a b → (u ≤ a) × (0 < a → 0 < b → 0 < u)
+    go true d f = let l : a < b = ltb-true a b d in (omega arith, λ p q. omega arith)
+    go false d f = let l : b ≤ a = ltb-false a b d in (omega arith, λ p q. omega arith)
+
+-- what stands behind word k + n where the first k words are others
+behind-front : (k n : ℕ) (p d : List ℕ) → length p ≡ k → drop (k + n) (p ++ drop k d) ≡ drop (k + n) d
+behind-front k n p d l =
+    sym (drop-drop n k (p ++ drop k d)) ∙ ap (λ (x : List ℕ). drop n x) (drop-at p (drop k d) k l) ∙ drop-drop n k d
+
+-- a stretch of n words handed over, behind k that were: the store d
+pub store-more : (k n : ℕ) (s d e f g : List ℕ) → k ≤ length s → e ≡ take k s ++ drop k d → f ≡ replicate k 0 ++ drop k s
+    → g ≡ take k e ++ (take n (drop k f) ++ drop (k + n) e) → g ≡ take (k + n) s ++ drop (k + n) d
+store-more k n s d e f g h he hf hg =
+    let l : length (take k s) ≡ k = length-take-le k s h in
+    let a : take k e ≡ take k s = ap (λ (x : List ℕ). take k x) he ∙ take-at (take k s) (drop k d) k l in
+    let b : drop k f ≡ drop k s = ap (λ (x : List ℕ). drop k x) hf ∙ drop-at (replicate k 0) (drop k s) k (length-replicate k 0) in
+    let c : drop (k + n) e ≡ drop (k + n) d = ap (λ (x : List ℕ). drop (k + n) x) he ∙ behind-front k n (take k s) d l in
+    hg ∙ rw (a, b, c, take-add k n s, append-assoc)
+
+-- the scratch s
+pub scratch-more : (k n : ℕ) (s f g : List ℕ) → f ≡ replicate k 0 ++ drop k s → g ≡ take k f ++ (replicate (k + n - k) 0 ++ drop (k + n) f)
+    → g ≡ replicate (k + n) 0 ++ drop (k + n) s
+scratch-more k n s f g hf hg =
+    let l : length (replicate {A = ℕ} k 0) ≡ k = length-replicate k 0 in
+    let a : take k f ≡ replicate k 0 = ap (λ (x : List ℕ). take k x) hf ∙ take-at (replicate k 0) (drop k s) k l in
+    let c : drop (k + n) f ≡ drop (k + n) s = ap (λ (x : List ℕ). drop (k + n) x) hf ∙ behind-front k n (replicate k 0) s l in
+    let m : k + n - k ≡ n = omega arith in
+    hg ∙ rw (a, c, m, ← append-assoc, replicate-append-replicate {A = ℕ} k n 0)
+
 -- E words moved to the front of a store that is zeros from word N on; cleared up to word U
 pub moved : (E N U : ℕ) (store scratch d d′ : List ℕ) → E ≤ U → N ≤ U → U ≤ length store → E ≤ length scratch → drop N store ≡ replicate (length store - N) 0
     → d ≡ take E scratch ++ drop E store → d′ ≡ take E d ++ (replicate (U - E) 0 ++ drop U d) → d′ ≡ take E scratch ++ replicate (length store - E) 0
@@ -46,11 +80,15 @@ moved E N U store scratch d d′ he hn hu hs z c k =
     let s : U - E + (length store - N - (U - N)) ≡ length store - E = omega arith in
     k ∙ rw (f, b, o, replicate-append-replicate {A = ℕ} (U - E) (length store - N - (U - N)) 0, s)
 
+-- zeros for the first E words, where zeros stand behind them
+pub zeros-front : (E : ℕ) (s s′ : List ℕ) → E ≤ length s → drop E s ≡ replicate (length s - E) 0 → s′ ≡ replicate E 0 ++ drop E s → s′ ≡ replicate (length s) 0
+zeros-front E s s′ h z e =
+    let q : E + (length s - E) ≡ length s = omega arith in
+    e ∙ rw (z, replicate-append-replicate {A = ℕ} E (length s - E) 0, q)
+
 -- the first E words cleared, where zeros stand behind them
 pub zeros-all : (E : ℕ) (s s′ : List ℕ) → E ≤ length s → drop E s ≡ replicate (length s - E) 0 → s′ ≡ take 0 s ++ (replicate (E - 0) 0 ++ drop E s) → s′ ≡ replicate (length s) 0
-zeros-all E s s′ h z e =
-    let q : E - 0 + (length s - E) ≡ length s = omega arith in
-    e ∙ rw (z, replicate-append-replicate {A = ℕ} (E - 0) (length s - E) 0, q)
+zeros-all E s s′ h z e = zeros-front E s s′ h z (rw (sub-zero E) at e)
 
 -- what stands behind in a list that was zeros
 pub zeros-kept : (E : ℕ) (s s′ : List ℕ) → length s′ ≡ length s → s ≡ replicate (length s) 0 → drop E s′ ≡ drop E s → drop E s′ ≡ replicate (length s′ - E) 0

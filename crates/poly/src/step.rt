@@ -89,6 +89,35 @@ fn larger(a: usize, b: usize) -> usize
     a
 }
 
+fn least(a: usize, b: usize) -> usize
+    ensures { λ r. ⌜ r ≡ cond (ltb a b) a b ⌝ }
+{
+    if a < b {
+        return a;
+    }
+    b
+}
+
+// Words moved at a time: 4 KiB on either side, which the nearest cache holds.
+const STRETCH: usize = 512;
+
+// Moves the first `end` words of scratch to the front of the store and leaves zeros there. A stretch is cleared while it is still
+// at hand.
+fn hand_over(scratch: &mut [u64], store: &mut [u64], end: usize)
+    requires { ⌜ (end ≤ length (now scratch)) × (end ≤ length (now store)) ⌝ }
+    ensures { λ r. ⌜ (now (store .exit) ≡ take end (now (scratch .entry)) ++ drop end (now (store .entry)))
+        × (now (scratch .exit) ≡ replicate end 0 ++ drop end (now (scratch .entry))) ⌝ }
+{
+    let mut done = 0;
+    while done < end {
+        let n = least(end - done, STRETCH);
+        let next = done + n;
+        words::stretches::copy(scratch, done, store, done, n);
+        words::stretches::clear(scratch, done, next);
+        done = next;
+    }
+}
+
 // Moves the r terms of scratch to the store, which held n, and clears what they leave: a step clears only what it used.
 fn settle(store: &mut [u64], n: usize, w: usize, scratch: &mut [u64], r: usize)
     requires { ⌜ (w ≤ 16) × (n * (w + 1) ≤ length (now store)) × (r * (w + 1) ≤ length (now store)) × (r * (w + 1) ≤ length (now scratch))
@@ -99,9 +128,8 @@ fn settle(store: &mut [u64], n: usize, w: usize, scratch: &mut [u64], r: usize)
 {
     let end = r * (w + 1);
     let most = larger(end, n * (w + 1));
-    words::stretches::copy(scratch, 0, store, 0, end);
+    hand_over(scratch, store, end);
     words::stretches::clear(store, end, most);
-    words::stretches::clear(scratch, 0, end);
 }
 
 // The step of gate g in the store: how many terms it then holds; limit + 1, and the store as it was, if there would be more than

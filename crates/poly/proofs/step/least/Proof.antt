@@ -1,0 +1,17 @@
+-- Each return is one of the two.
+use borrow.Author.Tests.{lt-ltb, le-ltb}
+use Rattle.poly.proofs.step.least.Statement.{statement}
+use Rattle.poly.proofs.step.least.Tie as tie
+use Rattle.poly.proofs.step.least.Reads as reads
+use Rattle.poly.proofs.step.least.Lts as lts
+
+returns : tie.Need-returns
+returns c =
+    rw (lt-ltb _ _ (c .if1 .taken))
+
+returns-2 : tie.Need-returns-2
+returns-2 c =
+    rw (le-ltb _ _ (c .if1 .left))
+
+pub least-spec : {M : Type 1} → statement M
+least-spec = tie.close (tie.spec returns returns-2)

@@ -17,11 +17,12 @@ use Rattle.rules.proofs.Terms.{hit-add, hit-mod, coefficient-cons}
 use Rattle.rules.proofs.Gathered.{keep-some}
 use Rattle.words.specs.Numbers.{num, words-at, masked, order-of}
 use Rattle.words.specs.Stored.{decoded}
+use Rattle.words.specs.declared.sets.Order.{Order}
 use Rattle.words.specs.declared.sets.Order.the-variants.{Less, Same, More}
-use Rattle.words.proofs.Numbers.{length-words-at, words-from, num-masked, read-order}
+use Rattle.words.proofs.Numbers.{Said, length-words-at, words-from, num-masked, num-short-masked, read-order}
 use Rattle.words.proofs.Stored.{decoded-at, length-decoded, stride-in}
 use Rattle.poly.specs.Signs.{scale}
-use Rattle.poly.specs.Streams.{sign-of, weight, stream, rest, rank, mask-at, Masks, Next, Loaded, Took}
+use Rattle.poly.specs.Streams.{sign-of, weight, stream, rest, rank, mask-at, Masks, Short, Next, Loaded, Took}
 use Rattle.poly.specs.declared.streams.Gate.{Gate}
 
 -- k rows of w words: the words of the j-th lie inside
@@ -287,5 +288,27 @@ abbrev pub Inside : List ℕ → List ℕ → ℕ → ℕ → ℕ → Type 0
 Inside store masks w i j = (i * (w + 1) + (w + 1) ≤ length store) × (j * w + w ≤ length masks)
 
 -- where there are n terms and k masks
-pub bounds : (s m : List ℕ) (n w k i j : ℕ) → Masks s m n w k → i < n → j < k → Inside s m w i j
-bounds s m n w k i j h li lj = (stride-in i n w (length s) li (h .room), row-in j k w (length m) lj (h .wide))
+pub bounds : (s m : List ℕ) (n w k u i j : ℕ) → Masks s m n w k u → i < n → j < k → Inside s m w i j
+bounds s m n w k u i j h li lj = (stride-in i n w (length s) li (h .room), row-in j k w (length m) lj (h .wide))
+
+-- and they use u words
+pub short-at : (s m : List ℕ) (n w k u i j : ℕ) → Masks s m n w k u → i < n → j < k → Short s m (i * (w + 1) + 1) (j * w) w u
+unfolding mask-at
+short-at s m n w k u i j h li lj =
+    let r = bounds s m n w k u i j h li lj in
+    record { set-in = omega arith; mask-in = r .1; set-low = h .sets i li; mask-low = h .low j lj }
+
+-- a set under a mask, in the words that they use
+pub short-num : (s m : List ℕ) (h a w u : ℕ) → Short s m h a w u → u ≤ w → ((x : ℕ) → getD s x 0 < 2 ^ 64) → ((x : ℕ) → getD m x 0 < 2 ^ 64)
+    → num (masked (words-at s h w) (words-at m a w)) ≡ num (masked (words-at s h u) (words-at m a u))
+short-num s m h a w u r l f g = num-short-masked s m h a w u (r .set-in) (r .mask-in) f g l (r .set-low) (r .mask-low)
+
+-- the order of the words that two heads use is their order
+pub read-heads : (s m at : List ℕ) (n w k u j b : ℕ) → Masks s m n w k u → j < k → b < k → ((x : ℕ) → getD s x 0 < 2 ^ 64) → ((x : ℕ) → getD m x 0 < 2 ^ 64)
+    → getD at j 0 < n → getD at b 0 < n → (o : Order)
+    → order-of (num (masked (words-at s (getD at j 0 * (w + 1) + 1) u) (words-at m (j * w) u))) (num (masked (words-at s (getD at b 0 * (w + 1) + 1) u) (words-at m (b * w) u))) ≡ o
+    → Said (num (masked (words-at s (getD at j 0 * (w + 1) + 1) w) (words-at m (j * w) w))) (num (masked (words-at s (getD at b 0 * (w + 1) + 1) w) (words-at m (b * w) w))) o
+read-heads s m at n w k u j b h hj hb f g lj lb o e =
+    let x = short-num s m (getD at j 0 * (w + 1) + 1) (j * w) w u (short-at s m n w k u (getD at j 0) j h lj hj) (h .short) f g in
+    let y = short-num s m (getD at b 0 * (w + 1) + 1) (b * w) w u (short-at s m n w k u (getD at b 0) b h lb hb) (h .short) f g in
+    read-order _ _ o (rw (x, y) e)

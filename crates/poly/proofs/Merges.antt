@@ -138,7 +138,7 @@ abbrev pub head-words : ℕ → List ℕ → List ℕ → List ℕ → ℕ → L
 head-words w store masks at b = masked (words-at store (getD at b 0 * (w + 1) + 1) w) (words-at masks (b * w) w)
 
 -- a turn in words: of k streams, b has the largest set at its head
-module _ (store masks signs : List ℕ) (n w k limit : ℕ) (g : Gate) (mk : Masks store masks n w k)
+module _ (store masks signs : List ℕ) (n w k limit : ℕ) (g : Gate) (mk : Masks store masks n w k (g .k))
     (fs : (x : ℕ) → getD store x 0 < 2 ^ 64) (fm : (x : ℕ) → getD masks x 0 < 2 ^ 64)
     (fall : Lows (2 ^ (64 * w)) k (λ j. stream g signs (mask-at w masks) j (decoded w n store)))
     (o b : ℕ) (scratch at : List ℕ) (lo : o ≤ limit) (h : Going g signs (mask-at w masks) (decoded w n store) (2 ^ (64 * w)) k limit o (decoded w o scratch) at)
@@ -158,7 +158,7 @@ module _ (store masks signs : List ℕ) (n w k limit : ℕ) (g : Gate) (mk : Mas
     -- they are w words
     words-length : length (head-words w store masks at b) ≡ w
     words-length =
-        let r = bounds store masks n w k (getD at b 0) b mk live lb in
+        let r = bounds store masks n w k (g .k) (getD at b 0) b mk live lb in
         length-masked store masks (getD at b 0 * (w + 1) + 1) (b * w) w (omega arith) (r .1)
 
     -- what is written lies inside

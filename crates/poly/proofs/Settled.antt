@@ -7,19 +7,22 @@ use native.Mathlib.Nat.{sub-zero}
 use native.Mathlib.Omega.{arith}
 use lib.Dec.{ltb, leb}
 use lib.ListN.{length, getD, take, drop, replicate, length-replicate, replicate-append-replicate}
-use lib.Pow.{pow-pos}
+use lib.Pow.{pow-pos, pow-mono}
 use lib.Seq.{drop-drop, take-add, take-at, drop-at, length-take-le}
 use borrow.Author.Tests.{ltb-true, ltb-false, le-leb, lt-leb}
 use Rattle.rules.specs.Judging.{polynomial-words, padded}
 use Rattle.rules.specs.Netlist.{variable}
-use Rattle.rules.specs.Polynomial.{Polynomial, gather}
+use Rattle.rules.specs.Polynomial.{Polynomial, Below, gather}
 use Rattle.rules.specs.Steps.{all-replaced}
+use Rattle.rules.specs.Values.{bit}
+use Rattle.rules.proofs.Bits.{bit-out}
 use Rattle.words.specs.Stored.{decoded}
 use Rattle.words.proofs.Stored.{length-decoded, stride-le}
 use Rattle.words.proofs.Encoded.{words-decoded, zeros-behind}
 use Rattle.poly.specs.Signs.{Apart}
-use Rattle.weave.specs.Seeking.{Last}
+use Rattle.weave.specs.Seeking.{Last, Uses}
 use Rattle.weave.specs.Written.{Gathered}
+use Rattle.weave.proofs.Places.{set-below}
 use Rattle.poly.specs.Stepping.{Prepared, Ready, Stepped}
 use Rattle.poly.specs.declared.gates.Pair.{Pair}
 use Rattle.poly.proofs.Replacing.{step-alike, step-absent}
@@ -124,27 +127,47 @@ stepped-same w l v x y limit held store scratch h end o z =
       cleared = h .clean;
     }
 
+-- a variable of a set that is below a power of two
+held-low : (s v e : ℕ) → bit s v ≡ 1 → s < 2 ^ e → v < e
+held-low s v e b l = go (ltb v e) refl
+  where
+    go : (t : Bool) → ltb v e ≡ t → v < e
+    go true d = ltb-true v e d
+    go false d = let m : 2 ^ e ≤ 2 ^ v = pow-mono (ltb-false v e d) in absurd (omega (arith, bit-out s v b .0))
+
+-- what the look for the words used asks, where some term holds v
+pub used-asks : (w l v x y limit held end : ℕ) (store scratch : List ℕ) → Ready w l v x y limit held store scratch → Last v (decoded w held store) end → (end ≡ 0 → ⊥)
+    → (held * (w + 1) ≤ length store) × (w ≤ 16) × (0 < held) × (0 < w) × Below (2 ^ (64 * w)) (decoded w held store)
+used-asks w l v x y limit held end store scratch h o z = (
+  stride-le held limit w (length store) (h .held-most) (h .store-room),
+  h .narrow,
+  omega (arith, o .high, z, length-decoded w held store),
+  omega (arith, h .v-in),
+  h .falls,
+)
+
 -- the literals brought apart
-module _ (w l v x y limit held end : ℕ) (store scratch : List ℕ) (h : Ready w l v x y limit held store scratch) (o : Last v (decoded w held store) end) (z : end ≡ 0 → ⊥) (p : Pair) (a : Apart x y p) where
+module _ (w l v x y limit held end : ℕ) (store scratch : List ℕ) (h : Ready w l v x y limit held store scratch) (o : Last v (decoded w held store) end) (z : end ≡ 0 → ⊥) (p : Pair) (a : Apart x y p) (k : ℕ) (u : Uses w (decoded w held store) k) where
   -- the terms held lie inside the store
   room : held * (w + 1) ≤ length store
   room = stride-le held limit w (length store) (h .held-most) (h .store-room)
 
   -- what the step of their gate asks
-  pub to-replace : Prepared store held w (record { v = v; x = p .x / 2; y = p .y / 2; l = l }) (p .x) (p .y) end scratch limit
+  pub to-replace : Prepared store held w (record { v = v; x = p .x / 2; y = p .y / 2; l = l; k = k }) (p .x) (p .y) end scratch limit
   unfolding variable
   to-replace = record {
     fit = record {
       room = room;
       narrow = h .narrow;
-      v-in = h .v-in;
+      short = u .within;
+      v-in = held-low (getD (decoded w held store) (end - 1) (0, 0) .1) v (64 * k) (o .held (omega (arith, z))) (set-below (2 ^ (64 * k)) (decoded w held store) (end - 1) (u .falls) (omega (arith, o .high, z)));
       l-high = h .l-high;
       x-is = refl;
       y-is = refl;
       x-low = omega (arith, a .x-low, h .x-low);
       y-low = omega (arith, a .y-low, h .y-low);
       apart = a .apart;
-      falls = h .falls;
+      falls = u .falls;
       coefficients = h .coefficients;
     };
     few = h .held-most;

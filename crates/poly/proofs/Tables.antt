@@ -8,13 +8,14 @@ use native.Mathlib.Numerals.{add-one-le}
 use native.Mathlib.Omega.{arith}
 use lib.Bits.{bitXor, xor-lt}
 use lib.ListN.{length, getD, take, drop, set, replicate}
-use lib.Pow.{pow-lt}
+use lib.Pow.{pow-lt, pow-mono}
 use lib.Seq.{getD-set-same, getD-set-other, drop-set-add, drop-set-lt, take-set-le}
 use Rattle.rules.specs.Netlist.{variable, inverted}
 use Rattle.rules.specs.Each.{joined}
 use Rattle.rules.specs.Polynomial.{Polynomial, Below, Coefficients, gather}
 use Rattle.rules.specs.Steps.{all-replaced}
 use Rattle.rules.proofs.Gathered.{under-of, gather-below}
+use Rattle.rules.proofs.Terms.{weaken}
 use Rattle.words.specs.Numbers.{num, words-at}
 use Rattle.words.specs.Stored.{decoded}
 use Rattle.words.proofs.Numbers.{turned-set}
@@ -22,11 +23,12 @@ use Rattle.words.proofs.Stored.{decoded-at, length-decoded}
 use Rattle.weave.specs.Merging.{Lows}
 use Rattle.weave.specs.Written.{Gathered}
 use Rattle.poly.specs.Signs.{factor, sign-product, sign, sign-at, mask-of, Apart}
-use Rattle.poly.specs.Streams.{mask-at, turned-by, Held, Turned, Masked, Tables, stream, streams}
+use Rattle.poly.specs.Streams.{mask-at, turned-by, Held, Masks, Turned, Masked, Tables, stream, streams}
 use Rattle.poly.specs.Stepping.{holding, Fit}
 use Rattle.poly.specs.declared.streams.Gate.{Gate}
 use Rattle.weave.proofs.Falling.{coefficients-at}
 use Rattle.weave.proofs.Fronts.{under-joined}
+use Rattle.weave.proofs.Places.{set-below}
 use Rattle.poly.proofs.Joins.{step-streams, stream-falls}
 use Rattle.poly.proofs.Replacing.{Small, alike-same, alike-against}
 
@@ -176,13 +178,24 @@ module _ (store : List ℕ) (n w : ℕ) (g : Gate) (x y : ℕ) (r : Fit store n 
   held = record {
     room = r .room;
     narrow = r .narrow;
-    v-in = r .v-in;
-    x-in = omega (arith, r .x-low, r .v-in);
-    y-in = omega (arith, r .y-low, r .v-in);
+    v-in = omega (arith, r .v-in, r .short);
+    x-in = omega (arith, r .x-low, r .v-in, r .short);
+    y-in = omega (arith, r .y-low, r .v-in, r .short);
     l-high = r .l-high;
     table = ls;
     some = λ i l. rw (decoded-at w n i store l) at (coefficients-at (2 ^ g .l) i (decoded w n store) (r .coefficients) (omega (arith, length-decoded w n store)) .0);
     small = λ i l. rw (decoded-at w n i store l) at (coefficients-at (2 ^ g .l) i (decoded w n store) (r .coefficients) (omega (arith, length-decoded w n store)) .1);
+  }
+
+  -- what the merge asks: the sets and the masks use the words that the gate says
+  pub masks-short : 4 * w ≤ length masks → Masks store masks n w 4 (g .k)
+  masks-short l = record {
+    narrow = r .narrow;
+    room = r .room;
+    wide = l;
+    short = r .short;
+    sets = λ i d. rw (decoded-at w n i store d) at (set-below (2 ^ (64 * g .k)) (decoded w n store) i (r .falls) (omega (arith, length-decoded w n store)));
+    low = λ j d. rw (hm j d) (mask-lt (64 * g .k) (g .v) (g .x) (g .y) j (r .v-in) (omega (arith, r .x-low, r .v-in)) (omega (arith, r .y-low, r .v-in)));
   }
 
   -- the tables are those of the gate
@@ -210,7 +223,9 @@ module _ (store : List ℕ) (n w : ℕ) (g : Gate) (x y : ℕ) (r : Fit store n 
 
   -- so below what the words of a set hold
   pub lows : Lows (2 ^ (64 * w)) 4 (λ j. stream g signs (mask-at w masks) j (decoded w n store))
-  lows = lows-under (64 * w) (r .v-in) (r .falls)
+  lows =
+      let m : 64 * g .k ≤ 64 * w = omega (arith, r .short) in
+      lows-under (64 * w) (omega (arith, r .v-in)) (weaken (2 ^ (64 * g .k)) (2 ^ (64 * w)) (decoded w n store) (pow-mono m) (r .falls))
 
   -- the streams gathered are what becomes of the terms that hold v
   same : gather (2 ^ g .l) (streams g signs (mask-at w masks) 4 (decoded w n store)) ≡ gather (2 ^ g .l) (all-replaced (2 ^ g .l) (g .v) x y (holding (g .v) (decoded w n store)))

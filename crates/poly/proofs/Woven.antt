@@ -1,40 +1,25 @@
 -- The step woven: what becomes of the terms that hold v was made in scratch behind room for `limit` terms; it is woven into the
 -- others, and cleared.
 use mathlib.Core.Path.{_≡_, refl, ap, _∙_}
-use mathlib.Core.Bool.{Bool, true, false}
 use mathlib.Core.List.{List, _++_}
 use Prim.Native.Nat.{ℕ, _+_, _-_, _*_, _^_, _<_, _≤_}
 use native.Mathlib.Nat.{add-mul, mul-assoc, mul-le-mul-right}
 use native.Mathlib.Omega.{arith}
-use lib.Dec.{ltb}
-use lib.ListN.{length, getD, take, drop, replicate, length-append, length-drop, take-append-drop}
-use lib.Pow.{pow-pos, pow-mono}
+use lib.ListN.{length, take, drop, replicate, length-append, length-drop, take-append-drop}
+use lib.Pow.{pow-pos}
 use lib.Seq.{take-all, length-take-le}
-use borrow.Author.Tests.{ltb-true, ltb-false}
-use Rattle.rules.specs.Values.{bit}
 use Rattle.rules.specs.Polynomial.{Polynomial, Below, gather}
 use Rattle.rules.specs.Steps.{all-replaced}
-use Rattle.rules.proofs.Bits.{bit-out}
 use Rattle.rules.proofs.Gathered.{gather-coefficients}
 use Rattle.words.specs.Stored.{decoded}
 use Rattle.words.proofs.Stored.{decoded-take, length-decoded, stride-le}
-use Rattle.weave.specs.Seeking.{Uses}
 use Rattle.weave.specs.Written.{Gathered, Behind}
 use Rattle.weave.specs.Weaving.{without, Task}
 use Rattle.weave.proofs.Falling.{below-front, coefficients-take}
-use Rattle.weave.proofs.Places.{set-below}
 use Rattle.poly.specs.Stepping.{holding, Fit, Prepared}
 use Rattle.poly.specs.declared.streams.Gate.{Gate}
 use Rattle.poly.proofs.Parts.{holding-front, step-parts, step-more}
 use Rattle.poly.proofs.Restored.{part-there, restored, front-stays}
-
--- a variable of a set that is below a power of two
-held-low : (s v e : ℕ) → bit s v ≡ 1 → s < 2 ^ e → v < e
-held-low s v e b l = go (ltb v e) refl
-  where
-    go : (t : Bool) → ltb v e ≡ t → v < e
-    go true d = ltb-true v e d
-    go false d = let m : 2 ^ e ≤ 2 ^ v = pow-mono (ltb-false v e d) in absurd (omega (arith, bit-out s v b .0))
 
 module _ (store : List ℕ) (n w : ℕ) (g : Gate) (x y end : ℕ) (scratch : List ℕ) (limit : ℕ) (h : Prepared store n w g x y end scratch limit) where
   -- the terms up to the last that holds v are terms of the store
@@ -54,6 +39,7 @@ module _ (store : List ℕ) (n w : ℕ) (g : Gate) (x y end : ℕ) (scratch : Li
   front-fit = record {
     room = stride-le end n w (length store) end-in (h .fit .room);
     narrow = h .fit .narrow;
+    short = h .fit .short;
     v-in = h .fit .v-in;
     l-high = h .fit .l-high;
     x-is = h .fit .x-is;
@@ -61,21 +47,13 @@ module _ (store : List ℕ) (n w : ℕ) (g : Gate) (x y end : ℕ) (scratch : Li
     x-low = h .fit .x-low;
     y-low = h .fit .y-low;
     apart = h .fit .apart;
-    falls = front-falls (2 ^ (64 * w)) (h .fit .falls);
+    falls = front-falls (2 ^ (64 * g .k)) (h .fit .falls);
     coefficients = rw front (coefficients-take (2 ^ g .l) end (decoded w n store) (h .fit .coefficients));
   }
 
   -- all that hold v are among them
   same : holding (g .v) (decoded w end store) ≡ holding (g .v) (decoded w n store)
   same = ap (holding (g .v)) front ∙ holding-front (g .v) end (decoded w n store) (h .last .free)
-
-  -- v is held, so it is below any power of two that is above all sets
-  v-low : (e : ℕ) → Below (2 ^ e) (decoded w n store) → g .v < e
-  v-low e b = held-low (getD (decoded w n store) (end - 1) (0, 0) .1) (g .v) e (h .last .held (h .some)) (set-below (2 ^ e) (decoded w n store) (end - 1) b (omega (arith, h .last .high, h .some)))
-
-  -- what the look for the words used asks
-  pub used-asks : (n * (w + 1) ≤ length store) × (w ≤ 16) × (0 < n) × (0 < w) × Below (2 ^ (64 * w)) (decoded w n store)
-  used-asks = (h .fit .room, h .fit .narrow, omega (arith, end-in, h .some), omega (arith, h .fit .v-in), h .fit .falls)
 
   -- scratch has room for `limit` terms
   pub room : limit * (w + 1) ≤ length scratch
@@ -116,19 +94,19 @@ module _ (store : List ℕ) (n w : ℕ) (g : Gate) (x y end : ℕ) (scratch : Li
     made-room l = omega (arith, rooms, mul-le-mul-right (w + 1) l)
 
     -- what the weave asks
-    pub task : made ≤ 2 * limit → (k : ℕ) → Uses w (decoded w n store) k → Task (record { n = n; w = w; k = k; v = g .v; l = g .l; end = end; made = made; limit = limit }) store s1
-    task l k u = record {
+    pub task : made ≤ 2 * limit → Task (record { n = n; w = w; k = g .k; v = g .v; l = g .l; end = end; made = made; limit = limit }) store s1
+    task l = record {
       room = h .fit .room;
       scratch-room = rw (add-mul limit made (w + 1), same-room) (made-room l);
       narrow = h .fit .narrow;
-      v-in = h .fit .v-in;
-      short = u .within;
+      v-in = omega (arith, h .fit .v-in, h .fit .short);
+      short = h .fit .short;
       l-high = h .fit .l-high;
       end-in = end-in;
       free = λ i a b. h .last .free i a (omega (arith, length-decoded w n store));
-      falls = u .falls;
+      falls = h .fit .falls;
       coefficients = h .fit .coefficients;
-      new-falls = rw there (fs (64 * k) (v-low (64 * k) (u .falls)) (front-falls (2 ^ (64 * k)) (u .falls)) l);
+      new-falls = rw there (fs (64 * g .k) (h .fit .v-in) (front-falls (2 ^ (64 * g .k)) (h .fit .falls)) l);
       new-coefficients = rw (there, gs .fits l) (gather-coefficients (2 ^ g .l) (all-replaced (2 ^ g .l) (g .v) x y (holding (g .v) (decoded w end store))) (pow-pos (g .l)));
     }
 

@@ -18,18 +18,20 @@ unfoldable pub holding : ℕ → Polynomial → Polynomial
 holding v [] = []
 holding v (t ∷ p) = cond (eqb (bit (t .1) v) 1) (t ∷ holding v p) (holding v p)
 
--- a polynomial of n terms is held, and the literals x and y are over the gate's variables: two below v, or 0
+-- a polynomial of n terms is held, whose sets use k of their w words, and the literals x and y are over the gate's variables: two
+-- below v, or 0
 pub record Fit (store : List ℕ) (n w : ℕ) (g : Gate) (x y : ℕ) : Type 0 where
   pub room : n * (w + 1) ≤ length store
   pub narrow : w ≤ 16
-  pub v-in : g .v < 64 * w
+  pub short : g .k ≤ w
+  pub v-in : g .v < 64 * g .k
   pub l-high : g .l ≤ 64
   pub x-is : g .x ≡ variable x
   pub y-is : g .y ≡ variable y
   pub x-low : g .x < g .v
   pub y-low : g .y < g .v
   pub apart : g .x ≡ g .y → g .y ≡ 0
-  pub falls : Below (2 ^ (64 * w)) (decoded w n store)
+  pub falls : Below (2 ^ (64 * g .k)) (decoded w n store)
   pub coefficients : Coefficients (2 ^ g .l) (decoded w n store)
 
 -- and some term holds the gate's variable, but none from `end` on; there is room for `limit` terms in the store, and for four

@@ -57,11 +57,21 @@ pub record Held (store : List ℕ) (n w : ℕ) (g : Gate) (signs : List ℕ) : T
   pub some : (i : ℕ) → i < n → 1 ≤ getD store (i * (w + 1)) 0
   pub small : (i : ℕ) → i < n → getD store (i * (w + 1)) 0 < 2 ^ g .l
 
--- the masks of k streams stand behind one another
-pub record Masks (store masks : List ℕ) (n w k : ℕ) : Type 0 where
+-- the masks of k streams stand behind one another; they and the sets of the n terms use u of their w words
+pub record Masks (store masks : List ℕ) (n w k u : ℕ) : Type 0 where
   pub narrow : w ≤ 16
   pub room : n * (w + 1) ≤ length store
   pub wide : k * w ≤ length masks
+  pub short : u ≤ w
+  pub sets : (i : ℕ) → i < n → num (words-at store (i * (w + 1) + 1) w) < 2 ^ (64 * u)
+  pub low : (j : ℕ) → j < k → mask-at w masks j < 2 ^ (64 * u)
+
+-- the set at h and the mask at a lie inside, and use u of their w words
+pub record Short (store masks : List ℕ) (h a w u : ℕ) : Type 0 where
+  pub set-in : h + w ≤ length store
+  pub mask-in : a + w ≤ length masks
+  pub set-low : num (words-at store h w) < 2 ^ (64 * u)
+  pub mask-low : num (words-at masks a w) < 2 ^ (64 * u)
 
 -- r is the first place from `from` on that has a weight in stream j, or the end
 pub record Next (g : Gate) (signs : List ℕ) (j : ℕ) (p : Polynomial) (from r : ℕ) : Type 0 where

@@ -8,21 +8,22 @@ ghost use Rattle.rules.specs.Polynomial.{Below};
 ghost use Rattle.words.specs.Numbers.{num, words-at, masked};
 ghost use Rattle.words.specs.Stored.{decoded};
 ghost use Rattle.poly.specs.Signs.{scale};
-ghost use Rattle.poly.specs.Streams.{Held, Masks, Loaded, Took, Swept, rank, rest, mask-at};
+ghost use Rattle.poly.specs.Streams.{Held, Masks, Short, Loaded, Took, Swept, rank, rest, mask-at};
 use crate::streams::Gate;
 use words::sets::Order;
 
-// Of the heads j and b, the one with the larger set; b if they are equal.
+// Of the heads j and b, the one with the larger set; b if they are equal. A set uses k of its w words.
 fn better(
     store: &[u64],
     n: usize,
     w: usize,
+    k: usize,
     masks: &[u64],
     at: &[usize],
     j: usize,
     b: usize,
 ) -> usize
-    requires { ⌜ Masks (now store) (now masks) n w (length (now at)) × (j < length (now at)) × (b < length (now at)) ⌝ }
+    requires { ⌜ Masks (now store) (now masks) n w (length (now at)) k × (j < length (now at)) × (b < length (now at)) ⌝ }
     ensures { λ r. ⌜ r ≡ cond (ltb (rank (mask-at w (now (masks .entry))) (decoded w n (now (store .entry))) (now (at .entry)) b) (rank (mask-at w (now (masks .entry))) (decoded w n (now (store .entry))) (now (at .entry)) j)) j b ⌝ }
 {
     let i = at[j];
@@ -41,7 +42,7 @@ fn better(
         masks,
         j * w,
         b * w,
-        w,
+        k,
     ) {
         Order::More => j,
         Order::Same => b,
@@ -49,15 +50,15 @@ fn better(
     }
 }
 
-// The stream with the largest set at its head; one at its end only if all are.
-pub fn best(store: &[u64], n: usize, w: usize, masks: &[u64], at: &[usize]) -> usize
-    requires { ⌜ Masks (now store) (now masks) n w (length (now at)) × (0 < length (now at)) ⌝ }
+// The stream with the largest set at its head; one at its end only if all are. A set uses k of its w words.
+pub fn best(store: &[u64], n: usize, w: usize, k: usize, masks: &[u64], at: &[usize]) -> usize
+    requires { ⌜ Masks (now store) (now masks) n w (length (now at)) k × (0 < length (now at)) ⌝ }
     ensures { λ r. ⌜ (r < length (now (at .entry))) × ((i : ℕ) → i < length (now (at .entry)) → rank (mask-at w (now (masks .entry))) (decoded w n (now (store .entry))) (now (at .entry)) i ≤ rank (mask-at w (now (masks .entry))) (decoded w n (now (store .entry))) (now (at .entry)) r) ⌝ }
 {
     let mut b = 0;
     let mut j = 1;
     while j < at.len() {
-        b = better(store, n, w, masks, at, j, b);
+        b = better(store, n, w, k, masks, at, j, b);
         j += 1;
     }
     b
@@ -109,7 +110,7 @@ fn take_head(
     a: usize,
     c: u64,
 ) -> u64
-    requires { ⌜ Held (now store) n w g (now signs) × Masks (now store) (now masks) n w (length (now at)) × (j < length (now at)) × (j < 4) × (h + w ≤ length (now store)) × (a + w ≤ length (now masks)) × (c < 2 ^ g .l)
+    requires { ⌜ Held (now store) n w g (now signs) × Masks (now store) (now masks) n w (length (now at)) (g .k) × (j < length (now at)) × (j < 4) × Short (now store) (now masks) h a w (g .k) × (c < 2 ^ g .l)
         × Loaded g (now signs) (decoded w n (now store)) (now at) j
         × Below (suc (num (masked (words-at (now store) h w) (words-at (now masks) a w)))) (rest g (now signs) (mask-at w (now masks)) (decoded w n (now store)) (now at) j) ⌝ }
     ensures { λ r. ⌜ Took g (now (signs .entry)) (mask-at w (now (masks .entry))) (decoded w n (now (store .entry))) (num (masked (words-at (now (store .entry)) h w) (words-at (now (masks .entry)) a w))) j (now (at .entry)) (now (at .exit)) c r ⌝ }
@@ -119,7 +120,7 @@ fn take_head(
         return c;
     }
     let stride = w + 1;
-    if !same(store, i * stride + 1, h, masks, j * w, a, w) {
+    if !same(store, i * stride + 1, h, masks, j * w, a, g.k) {
         return c;
     }
     let k = crate::streams::sign_of(store, i * stride + 1, w, g, signs, j);
@@ -140,7 +141,7 @@ pub fn sweep(
     h: usize,
     a: usize,
 ) -> u64
-    requires { ⌜ Held (now store) n w g (now signs) × Masks (now store) (now masks) n w (length (now at)) × (length (now at) ≤ 4) × (h + w ≤ length (now store)) × (a + w ≤ length (now masks))
+    requires { ⌜ Held (now store) n w g (now signs) × Masks (now store) (now masks) n w (length (now at)) (g .k) × (length (now at) ≤ 4) × Short (now store) (now masks) h a w (g .k)
         × ((i : ℕ) → i < length (now at) → Loaded g (now signs) (decoded w n (now store)) (now at) i)
         × ((i : ℕ) → i < length (now at) → Below (suc (num (masked (words-at (now store) h w) (words-at (now masks) a w)))) (rest g (now signs) (mask-at w (now masks)) (decoded w n (now store)) (now at) i)) ⌝ }
     ensures { λ r. ⌜ Swept g (now (signs .entry)) (mask-at w (now (masks .entry))) (decoded w n (now (store .entry))) (num (masked (words-at (now (store .entry)) h w) (words-at (now (masks .entry)) a w))) (length (now (at .entry))) (now (at .entry)) (now (at .exit)) r ⌝ }

@@ -47,7 +47,7 @@ fn run(
     scratch: &mut [u64],
     limit: usize,
 ) -> usize
-    requires { ⌜ Held (now store) n w g (now signs) × Masks (now store) (now masks) n w (length (now at)) × (0 < length (now at)) × (length (now at) ≤ 4) × (limit * (w + 1) ≤ length (now scratch))
+    requires { ⌜ Held (now store) n w g (now signs) × Masks (now store) (now masks) n w (length (now at)) (g .k) × (0 < length (now at)) × (length (now at) ≤ 4) × (limit * (w + 1) ≤ length (now scratch))
         × Lows (2 ^ (64 * w)) (length (now at)) (λ j. stream g (now signs) (mask-at w (now masks)) j (decoded w n (now store)))
         × ((j : ℕ) → j < length (now at) → Next g (now signs) j (decoded w n (now store)) 0 (getD (now at) j 0)) ⌝ }
     ensures { λ r. ⌜ Gathered limit (gather (2 ^ g .l) (streams g (now (signs .entry)) (mask-at w (now (masks .entry))) (length (now (at .entry))) (decoded w n (now (store .entry))))) (decoded w r (now (scratch .exit))) r
@@ -56,7 +56,7 @@ fn run(
     let stride = w + 1;
     let mut out = 0;
     while out <= limit {
-        let b = crate::heads::best(store, n, w, masks, at);
+        let b = crate::heads::best(store, n, w, g.k, masks, at);
         let i = at[b];
         if i >= n {
             return out;
@@ -81,7 +81,7 @@ pub fn merge(
     scratch: &mut [u64],
     limit: usize,
 ) -> usize
-    requires { ⌜ Held (now store) n w g (now signs) × Masks (now store) (now masks) n w (length (now at)) × (0 < length (now at)) × (length (now at) ≤ 4) × (limit * (w + 1) ≤ length (now scratch))
+    requires { ⌜ Held (now store) n w g (now signs) × Masks (now store) (now masks) n w (length (now at)) (g .k) × (0 < length (now at)) × (length (now at) ≤ 4) × (limit * (w + 1) ≤ length (now scratch))
         × Lows (2 ^ (64 * w)) (length (now at)) (λ j. stream g (now signs) (mask-at w (now masks)) j (decoded w n (now store))) ⌝ }
     ensures { λ r. ⌜ Gathered limit (gather (2 ^ g .l) (streams g (now (signs .entry)) (mask-at w (now (masks .entry))) (length (now (at .entry))) (decoded w n (now (store .entry))))) (decoded w r (now (scratch .exit))) r
         × Behind w limit r (now (scratch .entry)) (now (scratch .exit)) ⌝ }

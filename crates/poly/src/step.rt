@@ -64,11 +64,10 @@ fn gathered(
         words::stretches::clear(scratch, base, base + most * stride);
         return limit + 1;
     }
-    let k = weave::seeking::words_used(store, n, w);
     let sizes = Sizes {
         n,
         w,
-        k,
+        k: g.k,
         v: g.v,
         l: g.l,
         end,
@@ -181,11 +180,13 @@ pub fn step(
     let p = crate::gates::apart(x, y);
     let a = p.x;
     let b = p.y;
+    let k = weave::seeking::words_used(store, held, w);
     let g = Gate {
         v: gate,
         x: (a / 2) as usize,
         y: (b / 2) as usize,
         l: l,
+        k: k,
     };
     replace(store, held, w, g, a, b, end, scratch, limit)
 }

@@ -6,12 +6,13 @@ ghost use Rattle.words.specs.Numbers.{num, words-at};
 ghost use Rattle.words.specs.Stored.{decoded};
 ghost use Rattle.poly.specs.Streams.{sign-of, Next, Held};
 
-// A gate v over the variables x and y, and the bits of a coefficient.
+// A gate v over the variables x and y, the bits of a coefficient, and the words that a set uses.
 pub struct Gate {
     pub v: usize,
     pub x: usize,
     pub y: usize,
     pub l: u32,
+    pub k: usize,
 }
 
 // The sign in stream j of the set at word `at`.

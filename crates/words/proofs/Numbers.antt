@@ -172,6 +172,17 @@ num-low (suc k) (x ∷ xs) h =
 pub num-short : (s : List ℕ) (i w k : ℕ) → i + w ≤ length s → k ≤ w → num (words-at s i w) < 2 ^ (64 * k) → num (words-at s i w) ≡ num (words-at s i k)
 num-short s i w k l h n = num-low k (words-at s i w) n ∙ ap num (take-take k w (drop i s) h)
 
+-- and a set under a mask, where each uses k of its w words
+pub num-short-masked : (s m : List ℕ) (i a w k : ℕ) → i + w ≤ length s → a + w ≤ length m → ((n : ℕ) → getD s n 0 < 2 ^ 64) → ((n : ℕ) → getD m n 0 < 2 ^ 64)
+    → k ≤ w → num (words-at s i w) < 2 ^ (64 * k) → num (words-at m a w) < 2 ^ (64 * k) → num (masked (words-at s i w) (words-at m a w)) ≡ num (masked (words-at s i k) (words-at m a k))
+num-short-masked s m i a w k hi ha f g l x y =
+    let under : (n : ℕ) → i + n ≤ length s → a + n ≤ length m → num (masked (words-at s i n) (words-at m a n)) ≡ bitXor (num (words-at s i n)) (num (words-at m a n)) = λ n hs hm.
+    num-masked (words-at s i n) (words-at m a n) (words-from s i n hs f) (words-from m a n hm g) (length-words-at s i n hs ∙ sym (length-words-at m a n hm)) in
+    under w hi ha
+    ∙ ap (λ (z : ℕ). bitXor z (num (words-at m a w))) (num-short s i w k hi l x)
+    ∙ ap (λ (z : ℕ). bitXor (num (words-at s i k)) z) (num-short m a w k ha l y)
+    ∙ sym (under k (omega arith) (omega arith))
+
 -- the order of the words that two sets use is their order
 pub read-short : (s m : List ℕ) (i h w k : ℕ) (o : Order) → i + w ≤ length s → h + w ≤ length m → k ≤ w → num (words-at s i w) < 2 ^ (64 * k) → num (words-at m h w) < 2 ^ (64 * k)
     → order-of (num (words-at s i k)) (num (words-at m h k)) ≡ o → Said (num (words-at s i w)) (num (words-at m h w)) o

@@ -13,11 +13,11 @@ use Rattle.poly.proofs.heads.best.Lts as lts
 use Rattle.poly.proofs.heads.better.Reads as better-reads
 
 abbrev Inv-loop : tie.InvT-loop
-Inv-loop store n w masks at b₀ j₀ b j =
+Inv-loop store n w k masks at b₀ j₀ b j =
     (j ≤ length at) × (b < length at) × ((i : ℕ) → i < j → rank (mask-at w masks) (decoded w n store) at i ≤ rank (mask-at w masks) (decoded w n store) at b)
 
 abbrev μ-loop : tie.MeasureT-loop
-μ-loop store n w masks at b₀ j₀ b j =
+μ-loop store n w k masks at b₀ j₀ b j =
     length at - j
 
 loop-holds : tie.Need-loop-holds Inv-loop μ-loop

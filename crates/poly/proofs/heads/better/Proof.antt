@@ -2,9 +2,8 @@
 use mathlib.Core.Path.{sym, _∙_}
 use native.Mathlib.Omega.{arith}
 use lib.ListN.{length, getD}
-use Rattle.poly.proofs.Flow.{Inside, bounds, better-end, better-first, better-yes, better-no}
+use Rattle.poly.proofs.Flow.{Inside, bounds, better-end, better-first, better-yes, better-no, read-heads}
 use borrow.Author.Needs.{needs}
-use Rattle.words.proofs.Numbers.{read-order}
 use Rattle.words.specs.declared.sets.Order.the-variants.{Less, Same, More}
 use Rattle.poly.proofs.heads.better.Statement.{statement}
 use Rattle.poly.proofs.heads.better.Tie as tie
@@ -16,13 +15,13 @@ use Rattle.words.proofs.sets.compare.Reads as compare-reads
 head-room : (c : tie.Else2) → Inside (c .before .before .before .before .before .before .before .args .store .now) (c .before .before .before .before .before .before .before .args .masks .now) (c .before .before .before .before .before .before .before .args .w) (getD (c .before .before .before .before .before .before .before .args .at .now) (c .before .before .before .before .before .before .before .args .j) 0) (c .before .before .before .before .before .before .before .args .j)
 head-room c =
     let a = c .before .before .before .before .before .before .before .args in
-    bounds (a .store .now) (a .masks .now) (a .n) (a .w) (length (a .at .now)) (getD (a .at .now) (a .j) 0) (a .j) (c .before .before .before .before .before .before .before .pre .0) (c .before .before .if1 .left) (c .before .before .before .before .before .before .before .pre .1)
+    bounds (a .store .now) (a .masks .now) (a .n) (a .w) (length (a .at .now)) (a .k) (getD (a .at .now) (a .j) 0) (a .j) (c .before .before .before .before .before .before .before .pre .0) (c .before .before .if1 .left) (c .before .before .before .before .before .before .before .pre .1)
 
 -- and those of b
 other-room : (c : tie.Else2) → Inside (c .before .before .before .before .before .before .before .args .store .now) (c .before .before .before .before .before .before .before .args .masks .now) (c .before .before .before .before .before .before .before .args .w) (getD (c .before .before .before .before .before .before .before .args .at .now) (c .before .before .before .before .before .before .before .args .b) 0) (c .before .before .before .before .before .before .before .args .b)
 other-room c =
     let a = c .before .before .before .before .before .before .before .args in
-    bounds (a .store .now) (a .masks .now) (a .n) (a .w) (length (a .at .now)) (getD (a .at .now) (a .b) 0) (a .b) (c .before .before .before .before .before .before .before .pre .0) (c .if2 .left) (c .before .before .before .before .before .before .before .pre .2)
+    bounds (a .store .now) (a .masks .now) (a .n) (a .w) (length (a .at .now)) (a .k) (getD (a .at .now) (a .b) 0) (a .b) (c .before .before .before .before .before .before .before .pre .0) (c .if2 .left) (c .before .before .before .before .before .before .before .pre .2)
 
 mul-i : tie.Need-mul-i
 mul-i c = search needs
@@ -77,7 +76,7 @@ mul-compare-4 c =
 
 compare-requires : tie.Need-compare-requires
 compare-requires c κs =
-    omega (arith, head-room c, other-room c)
+    omega (arith, head-room c, other-room c, c .before .before .before .before .before .before .before .pre .0 .short)
 
 enum-told : tie.Need-enum-told
 enum-told c = search needs
@@ -92,20 +91,20 @@ returns-3 : tie.Need-returns-3
 returns-3 c =
     let a = c .before .before .before .before .before .before .before .before .before .before .args in
     let p = c .before .before .before .before .before .before .before .before .before .before .pre in
-    better-yes (a .store .now) (a .masks .now) (a .at .now) (a .n) (a .w) (length (a .at .now)) (a .j) (a .b) (p .0 .room) (p .0 .wide) (p .1) (p .2) (λ x. c .before .before .before .before .before .before .before .before .before .shared-slice-known .given x .fits) (λ x. c .before .before .before .before .before .before .before .before .shared-slice-known2 .given x .fits) (c .before .before .before .before .before .if1 .left) (c .before .before .before .if2 .left) (read-order _ _ More (sym (c .before .before .compare .ensures) ∙ c .enum-told .given .1))
+    better-yes (a .store .now) (a .masks .now) (a .at .now) (a .n) (a .w) (length (a .at .now)) (a .j) (a .b) (p .0 .room) (p .0 .wide) (p .1) (p .2) (λ x. c .before .before .before .before .before .before .before .before .before .shared-slice-known .given x .fits) (λ x. c .before .before .before .before .before .before .before .before .shared-slice-known2 .given x .fits) (c .before .before .before .before .before .if1 .left) (c .before .before .before .if2 .left) (read-heads (a .store .now) (a .masks .now) (a .at .now) (a .n) (a .w) (length (a .at .now)) (a .k) (a .j) (a .b) (p .0) (p .1) (p .2) (λ x. c .before .before .before .before .before .before .before .before .before .shared-slice-known .given x .fits) (λ x. c .before .before .before .before .before .before .before .before .shared-slice-known2 .given x .fits) (c .before .before .before .before .before .if1 .left) (c .before .before .before .if2 .left) More (sym (c .before .before .compare .ensures) ∙ c .enum-told .given .1))
 
 returns-4 : tie.Need-returns-4
 returns-4 c =
     let a = c .before .before .before .before .before .before .before .before .before .before .args in
     let p = c .before .before .before .before .before .before .before .before .before .before .pre in
-    let e = read-order _ _ Same (sym (c .before .before .compare .ensures) ∙ c .enum-told2 .given .1) in
+    let e = read-heads (a .store .now) (a .masks .now) (a .at .now) (a .n) (a .w) (length (a .at .now)) (a .k) (a .j) (a .b) (p .0) (p .1) (p .2) (λ x. c .before .before .before .before .before .before .before .before .before .shared-slice-known .given x .fits) (λ x. c .before .before .before .before .before .before .before .before .shared-slice-known2 .given x .fits) (c .before .before .before .before .before .if1 .left) (c .before .before .before .if2 .left) Same (sym (c .before .before .compare .ensures) ∙ c .enum-told2 .given .1) in
     better-no (a .store .now) (a .masks .now) (a .at .now) (a .n) (a .w) (length (a .at .now)) (a .j) (a .b) (p .0 .room) (p .0 .wide) (p .1) (p .2) (λ x. c .before .before .before .before .before .before .before .before .before .shared-slice-known .given x .fits) (λ x. c .before .before .before .before .before .before .before .before .shared-slice-known2 .given x .fits) (c .before .before .before .before .before .if1 .left) (c .before .before .before .if2 .left) (omega (arith, e))
 
 returns-5 : tie.Need-returns-5
 returns-5 c =
     let a = c .before .before .before .before .before .before .before .before .before .before .args in
     let p = c .before .before .before .before .before .before .before .before .before .before .pre in
-    let e = read-order _ _ Less (sym (c .before .before .compare .ensures) ∙ c .enum-told3 .given .1) in
+    let e = read-heads (a .store .now) (a .masks .now) (a .at .now) (a .n) (a .w) (length (a .at .now)) (a .k) (a .j) (a .b) (p .0) (p .1) (p .2) (λ x. c .before .before .before .before .before .before .before .before .before .shared-slice-known .given x .fits) (λ x. c .before .before .before .before .before .before .before .before .shared-slice-known2 .given x .fits) (c .before .before .before .before .before .if1 .left) (c .before .before .before .if2 .left) Less (sym (c .before .before .compare .ensures) ∙ c .enum-told3 .given .1) in
     better-no (a .store .now) (a .masks .now) (a .at .now) (a .n) (a .w) (length (a .at .now)) (a .j) (a .b) (p .0 .room) (p .0 .wide) (p .1) (p .2) (λ x. c .before .before .before .before .before .before .before .before .before .shared-slice-known .given x .fits) (λ x. c .before .before .before .before .before .before .before .before .shared-slice-known2 .given x .fits) (c .before .before .before .before .before .if1 .left) (c .before .before .before .if2 .left) (omega (arith, e))
 
 pub better-spec : {M : Type 1} → statement M

@@ -25,7 +25,7 @@ loop-holds : tie.Need-loop-holds Inv-loop μ-loop
 loop-holds c =
     let a = c .before .before .before .before .args in
     let p = c .before .before .before .before .pre in
-    (omega arith, refl, sweep-none (a .g) (a .signs .now) (mask-at (a .w) (a .masks .now)) (decoded (a .w) (a .n) (a .store .now)) (num (masked (words-at (a .store .now) (a .h) (a .w)) (words-at (a .masks .now) (a .a) (a .w)))) (length (a .at .now)) (a .at .now) (p .5) (p .6))
+    (omega arith, refl, sweep-none (a .g) (a .signs .now) (mask-at (a .w) (a .masks .now)) (decoded (a .w) (a .n) (a .store .now)) (num (masked (words-at (a .store .now) (a .h) (a .w)) (words-at (a .masks .now) (a .a) (a .w)))) (length (a .at .now)) (a .at .now) (p .4) (p .5))
 
 take-head-requires : tie.Need-take-head-requires Inv-loop μ-loop
 take-head-requires c κs =
@@ -33,7 +33,7 @@ take-head-requires c κs =
     let p = c .before .before .before .before .before .before .before .pre in
     let l = c .before .before .loop in
     let t : l .j < length (a .at .now) = omega arith in
-    (p .0, rw (l .inv .1) (p .1), c .before .loop-test .taken, omega arith, p .3, p .4, l .inv .2 .small, l .inv .2 .loaded (l .j) t, l .inv .2 .high (l .j) t)
+    (p .0, rw (l .inv .1) (p .1), c .before .loop-test .taken, omega arith, p .3, l .inv .2 .small, l .inv .2 .loaded (l .j) t, l .inv .2 .high (l .j) t)
 
 add-j : tie.Need-add-j Inv-loop μ-loop
 add-j c = omega arith

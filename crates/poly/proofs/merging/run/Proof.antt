@@ -8,7 +8,7 @@ use Rattle.words.specs.Stored.{decoded}
 use Rattle.words.proofs.Stored.{length-decoded}
 use Rattle.weave.specs.Written.{Behind}
 use Rattle.poly.specs.Streams.{mask-at}
-use Rattle.poly.proofs.Flow.{Inside, bounds}
+use Rattle.poly.proofs.Flow.{Inside, bounds, short-at}
 use Rattle.weave.proofs.Growing.{behind-none}
 use Rattle.poly.proofs.Merges.{Going, go-start, go-end, go-full, turn-high, turn-on, turn-behind, turn-less}
 use Rattle.poly.proofs.merging.run.Statement.{statement}
@@ -33,7 +33,7 @@ room c =
     let a = c .before .before .before .before .before .before .before .before .before .before .before .args in
     let p = c .before .before .before .before .before .before .before .before .before .before .before .pre in
     let l = c .before .before .before .before .before .loop in
-    bounds (a .store .now) (a .masks .now) (a .n) (a .w) (length (a .at .now)) (getD (l .at) (c .before .before .best .result) 0) (c .before .before .best .result) (p .1) (c .if1 .left) (rw (l .inv .0) at (c .before .before .best .ensures .0))
+    bounds (a .store .now) (a .masks .now) (a .n) (a .w) (length (a .at .now)) (a .g .k) (getD (l .at) (c .before .before .best .result) 0) (c .before .before .best .result) (p .1) (c .if1 .left) (rw (l .inv .0) at (c .before .before .best .ensures .0))
 
 add-stride : tie.Need-add-stride Inv-loop μ-loop
 add-stride c =
@@ -91,13 +91,11 @@ sweep-requires c κs =
     let a = c .before .before .before .before .before .before .before .before .before .before .before .before .args in
     let p = c .before .before .before .before .before .before .before .before .before .before .before .before .pre in
     let l = c .before .before .before .before .before .before .loop in
-    let r = room (c .before) in
     let k = l .inv .0 in (
       p .0,
       rw k (p .1),
       rw k (p .3),
-      omega (arith, r),
-      r .1,
+      short-at (a .store .now) (a .masks .now) (a .n) (a .w) (length (a .at .now)) (a .g .k) (getD (l .at) (c .before .before .before .best .result) 0) (c .before .before .before .best .result) (p .1) (c .before .if1 .left) (rw k at (c .before .before .before .best .ensures .0)),
       λ i d. l .inv .2 .loaded i (rw k at d),
       λ i d. turn-high (a .store .now) (a .masks .now) (a .signs .now) (a .n) (a .w) (length (a .at .now)) (a .limit) (a .g) (p .1) (λ x. c .before .before .before .before .before .before .before .before .before .before .before .shared-slice-known .given x .fits) (λ x. c .before .before .before .before .before .before .before .before .before .shared-slice-known3 .given x .fits) (p .5) (l .out) (c .before .before .before .best .result) (l .scratch) (l .at) (c .before .before .before .before .before .loop-test .taken) (l .inv .2) (λ i d. c .before .before .before .best .ensures .1 i (rw (l .inv .0) d)) (rw (l .inv .0) at (c .before .before .before .best .ensures .0)) (c .before .if1 .left) i (rw k at d),
     )

@@ -3,14 +3,13 @@ use mathlib.Core.Path.{refl}
 use Prim.Native.Nat.{_^_, _<_}
 use native.Mathlib.Omega.{arith}
 use lib.ListN.{length}
-use Rattle.poly.proofs.Woven.{front-fit, part-room, made-room, same-room, used-asks, task, woven-full, woven-fits}
+use Rattle.poly.proofs.Woven.{front-fit, part-room, made-room, same-room, task, woven-full, woven-fits}
 use borrow.Author.Needs.{needs}
 use Rattle.poly.proofs.step.gathered.Statement.{statement}
 use Rattle.poly.proofs.step.gathered.Tie as tie
 use Rattle.poly.proofs.step.gathered.Reads as reads
 use Rattle.poly.proofs.step.gathered.Lts as lts
 use Rattle.poly.proofs.step.replacements.Reads as replacements-reads
-use Rattle.weave.proofs.seeking.words_used.Reads as words-used-reads
 use Rattle.weave.proofs.weaving.weave.Reads as weave-reads
 use Rattle.words.proofs.stretches.clear.Reads as clear-reads
 
@@ -65,46 +64,41 @@ returns c =
     let m = c .before .before .before .before .before .before .before .replacements in
     woven-full (a .store .now) (a .n) (a .w) (a .g) (a .x) (a .y) (a .end) (a .scratch .now) (a .limit) (c .before .before .before .before .before .before .before .before .before .before .before .pre) (m .result) (m .last .1 .1 .1 .1 .1 .1 .0) _ (m .kept .1 .1 .1 .1 .1 .1 .0) refl (m .ensures .0) (m .ensures .1) (m .ensures .2) (c .before .before .before .before .if1 .taken) (c .before .before .clear .last .0) (c .before .before .clear .ensures)
 
-words-used-requires : tie.Need-words-used-requires
-words-used-requires c κs =
-    let a = c .before .before .before .before .before .before .before .args in
-    used-asks (a .store .now) (a .n) (a .w) (a .g) (a .x) (a .y) (a .end) (a .scratch .now) (a .limit) (c .before .before .before .before .before .before .before .pre)
-
 weave-requires : tie.Need-weave-requires
 weave-requires c κs =
-    let a = c .before .before .before .before .before .before .before .before .before .args in
-    let m = c .before .before .before .before .before .replacements in
-    task (a .store .now) (a .n) (a .w) (a .g) (a .x) (a .y) (a .end) (a .scratch .now) (a .limit) (c .before .before .before .before .before .before .before .before .before .pre) (m .result) (m .last .1 .1 .1 .1 .1 .1 .0) _ (m .kept .1 .1 .1 .1 .1 .1 .0) refl (m .ensures .0) (m .ensures .1) (m .ensures .2) (c .before .before .if1 .left) (c .before .words-used .result) (c .before .words-used .ensures)
+    let a = c .before .before .before .before .before .before .before .before .args in
+    let m = c .before .before .before .before .replacements in
+    task (a .store .now) (a .n) (a .w) (a .g) (a .x) (a .y) (a .end) (a .scratch .now) (a .limit) (c .before .before .before .before .before .before .before .before .pre) (m .result) (m .last .1 .1 .1 .1 .1 .1 .0) _ (m .kept .1 .1 .1 .1 .1 .1 .0) refl (m .ensures .0) (m .ensures .1) (m .ensures .2) (c .before .if1 .left)
 
 mul-clear-2 : tie.Need-mul-clear-2
 mul-clear-2 c =
-    let a = c .before .before .before .before .before .before .before .before .before .before .before .before .before .args in
-    let m = c .before .before .before .before .before .before .before .before .before .replacements in
-    let q = made-room (a .store .now) (a .n) (a .w) (a .g) (a .x) (a .y) (a .end) (a .scratch .now) (a .limit) (c .before .before .before .before .before .before .before .before .before .before .before .before .before .pre) (m .result) (m .last .1 .1 .1 .1 .1 .1 .0) _ (m .kept .1 .1 .1 .1 .1 .1 .0) refl (m .ensures .0) (m .ensures .1) (m .ensures .2) (c .before .before .before .before .before .before .if1 .left) in
-    omega (arith, q, lent (c .before .before .before .before .before .before .before .before .before .before))
+    let a = c .before .before .before .before .before .before .before .before .before .before .before .before .args in
+    let m = c .before .before .before .before .before .before .before .before .replacements in
+    let q = made-room (a .store .now) (a .n) (a .w) (a .g) (a .x) (a .y) (a .end) (a .scratch .now) (a .limit) (c .before .before .before .before .before .before .before .before .before .before .before .before .pre) (m .result) (m .last .1 .1 .1 .1 .1 .1 .0) _ (m .kept .1 .1 .1 .1 .1 .1 .0) refl (m .ensures .0) (m .ensures .1) (m .ensures .2) (c .before .before .before .before .before .if1 .left) in
+    omega (arith, q, lent (c .before .before .before .before .before .before .before .before .before))
 
 add-clear-2 : tie.Need-add-clear-2
 add-clear-2 c =
-    let a = c .before .before .before .before .before .before .before .before .before .before .before .before .before .args in
-    let m = c .before .before .before .before .before .before .before .before .before .replacements in
-    let q = made-room (a .store .now) (a .n) (a .w) (a .g) (a .x) (a .y) (a .end) (a .scratch .now) (a .limit) (c .before .before .before .before .before .before .before .before .before .before .before .before .before .pre) (m .result) (m .last .1 .1 .1 .1 .1 .1 .0) _ (m .kept .1 .1 .1 .1 .1 .1 .0) refl (m .ensures .0) (m .ensures .1) (m .ensures .2) (c .before .before .before .before .before .before .if1 .left) in
-    omega (arith, q, lent (c .before .before .before .before .before .before .before .before .before .before))
+    let a = c .before .before .before .before .before .before .before .before .before .before .before .before .args in
+    let m = c .before .before .before .before .before .before .before .before .replacements in
+    let q = made-room (a .store .now) (a .n) (a .w) (a .g) (a .x) (a .y) (a .end) (a .scratch .now) (a .limit) (c .before .before .before .before .before .before .before .before .before .before .before .before .pre) (m .result) (m .last .1 .1 .1 .1 .1 .1 .0) _ (m .kept .1 .1 .1 .1 .1 .1 .0) refl (m .ensures .0) (m .ensures .1) (m .ensures .2) (c .before .before .before .before .before .if1 .left) in
+    omega (arith, q, lent (c .before .before .before .before .before .before .before .before .before))
 
 clear-requires-2 : tie.Need-clear-requires-2
 clear-requires-2 c κs =
-    let a = c .before .before .before .before .before .before .before .before .before .before .before .before .before .args in
-    let m = c .before .before .before .before .before .before .before .before .before .replacements in
-    (omega arith, rw (c .before .before .before .weave .kept .1 .1 .0, same-room (a .store .now) (a .n) (a .w) (a .g) (a .x) (a .y) (a .end) (a .scratch .now) (a .limit) (c .before .before .before .before .before .before .before .before .before .before .before .before .before .pre) (m .result) (m .last .1 .1 .1 .1 .1 .1 .0) _ (m .kept .1 .1 .1 .1 .1 .1 .0) refl (m .ensures .0) (m .ensures .1) (m .ensures .2)) (made-room (a .store .now) (a .n) (a .w) (a .g) (a .x) (a .y) (a .end) (a .scratch .now) (a .limit) (c .before .before .before .before .before .before .before .before .before .before .before .before .before .pre) (m .result) (m .last .1 .1 .1 .1 .1 .1 .0) _ (m .kept .1 .1 .1 .1 .1 .1 .0) refl (m .ensures .0) (m .ensures .1) (m .ensures .2) (c .before .before .before .before .before .before .if1 .left)))
+    let a = c .before .before .before .before .before .before .before .before .before .before .before .before .args in
+    let m = c .before .before .before .before .before .before .before .before .replacements in
+    (omega arith, rw (c .before .before .before .weave .kept .1 .1 .0, same-room (a .store .now) (a .n) (a .w) (a .g) (a .x) (a .y) (a .end) (a .scratch .now) (a .limit) (c .before .before .before .before .before .before .before .before .before .before .before .before .pre) (m .result) (m .last .1 .1 .1 .1 .1 .1 .0) _ (m .kept .1 .1 .1 .1 .1 .1 .0) refl (m .ensures .0) (m .ensures .1) (m .ensures .2)) (made-room (a .store .now) (a .n) (a .w) (a .g) (a .x) (a .y) (a .end) (a .scratch .now) (a .limit) (c .before .before .before .before .before .before .before .before .before .before .before .before .pre) (m .result) (m .last .1 .1 .1 .1 .1 .1 .0) _ (m .kept .1 .1 .1 .1 .1 .1 .0) refl (m .ensures .0) (m .ensures .1) (m .ensures .2) (c .before .before .before .before .before .if1 .left)))
 
 same-length-2 : tie.Need-same-length-2
 same-length-2 c = search needs
 
 returns-2 : tie.Need-returns-2
 returns-2 c =
-    let a = c .before .before .before .before .before .before .before .before .before .before .before .before .before .before .before .before .args in
-    let m = c .before .before .before .before .before .before .before .before .before .before .before .before .replacements in
+    let a = c .before .before .before .before .before .before .before .before .before .before .before .before .before .before .before .args in
+    let m = c .before .before .before .before .before .before .before .before .before .before .before .replacements in
     let e = c .before .before .before .before .before .before .weave in
-    woven-fits (a .store .now) (a .n) (a .w) (a .g) (a .x) (a .y) (a .end) (a .scratch .now) (a .limit) (c .before .before .before .before .before .before .before .before .before .before .before .before .before .before .before .before .pre) (m .result) (m .last .1 .1 .1 .1 .1 .1 .0) _ (m .kept .1 .1 .1 .1 .1 .1 .0) refl (m .ensures .0) (m .ensures .1) (m .ensures .2) (c .before .before .before .before .before .before .before .before .before .if1 .left) (e .result) (e .last .1 .1 .0) (c .before .before .clear2 .last .0) (e .ensures .0) (e .ensures .1) (e .kept .1 .1 .0) (c .before .before .clear2 .ensures)
+    woven-fits (a .store .now) (a .n) (a .w) (a .g) (a .x) (a .y) (a .end) (a .scratch .now) (a .limit) (c .before .before .before .before .before .before .before .before .before .before .before .before .before .before .before .pre) (m .result) (m .last .1 .1 .1 .1 .1 .1 .0) _ (m .kept .1 .1 .1 .1 .1 .1 .0) refl (m .ensures .0) (m .ensures .1) (m .ensures .2) (c .before .before .before .before .before .before .before .before .if1 .left) (e .result) (e .last .1 .1 .0) (c .before .before .clear2 .last .0) (e .ensures .0) (e .ensures .1) (e .kept .1 .1 .0) (c .before .before .clear2 .ensures)
 
 pub gathered-spec : {M : Type 1} → statement M
 gathered-spec =
@@ -124,7 +118,6 @@ gathered-spec =
     add-result
     same-length
     returns
-    words-used-requires
     weave-requires
     mul-clear-2
     add-clear-2

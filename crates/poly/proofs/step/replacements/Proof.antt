@@ -5,7 +5,7 @@ use Prim.Native.Nat.{ℕ}
 use native.Mathlib.Omega.{arith}
 use lib.ListN.{length}
 use Rattle.words.specs.Stored.{decoded}
-use Rattle.poly.proofs.Tables.{mask-none, held, lows, gathered, falls}
+use Rattle.poly.proofs.Tables.{mask-none, held, masks-short, lows, gathered, falls}
 use borrow.Author.Needs.{needs}
 use Rattle.poly.proofs.step.replacements.Statement.{statement}
 use Rattle.poly.proofs.step.replacements.Tie as tie
@@ -27,7 +27,7 @@ slice-aggregate-mask-table c = search needs
 mask-table-requires : tie.Need-mask-table-requires
 mask-table-requires c κs =
     let p = c .before .before .before .before .before .before .pre .0 in
-    (omega (arith, p .narrow), p .v-in, omega (arith, p .x-low, p .v-in), omega (arith, p .y-low, p .v-in), λ j l. mask-none (c .before .before .before .before .before .before .args .w) 64 j)
+    (omega (arith, p .narrow), omega (arith, p .v-in, p .short), omega (arith, p .x-low, p .v-in, p .short), omega (arith, p .y-low, p .v-in, p .short), λ j l. mask-none (c .before .before .before .before .before .before .args .w) 64 j)
 
 slice-aggregate-merge : tie.Need-slice-aggregate-merge
 slice-aggregate-merge c = search needs
@@ -47,8 +47,9 @@ merge-requires c κs =
     let ls : length (c .before .before .before .before .before .before .before .before .sign-table .last .0) ≡ 16 = c .before .before .before .before .before .before .before .before .sign-table .kept .0 in
     let lm : length (c .before .before .before .before .before .mask-table .last .0) ≡ 64 = c .before .before .before .before .before .mask-table .kept .0 in
     let h = held (a .store .now) (a .n) (a .w) (a .g) (a .x) (a .y) (p .0) (c .before .before .before .before .before .before .before .before .sign-table .last .0) (c .before .before .before .before .before .mask-table .last .0) ls (c .before .before .before .before .before .before .before .before .sign-table .ensures) (c .before .before .before .before .before .mask-table .ensures) in
+    let k = masks-short (a .store .now) (a .n) (a .w) (a .g) (a .x) (a .y) (p .0) (c .before .before .before .before .before .before .before .before .sign-table .last .0) (c .before .before .before .before .before .mask-table .last .0) ls (c .before .before .before .before .before .before .before .before .sign-table .ensures) (c .before .before .before .before .before .mask-table .ensures) (omega (arith, p .0 .narrow, lm)) in
     let l = lows (a .store .now) (a .n) (a .w) (a .g) (a .x) (a .y) (p .0) (c .before .before .before .before .before .before .before .before .sign-table .last .0) (c .before .before .before .before .before .mask-table .last .0) ls (c .before .before .before .before .before .before .before .before .sign-table .ensures) (c .before .before .before .before .before .mask-table .ensures) in
-    (h, record { narrow = p .0 .narrow; room = p .0 .room; wide = omega (arith, p .0 .narrow, lm) }, omega arith, omega arith, p .1, l)
+    (h, k, omega arith, omega arith, p .1, l)
 
 same-length : tie.Need-same-length
 same-length c = search needs

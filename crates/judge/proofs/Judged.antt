@@ -93,8 +93,8 @@ module _ (c : Counts) (table : List ℕ) (kind limit : ℕ) (order store scratch
 
   -- a refusal sets nothing out
   pub set-out-refused : {lent : ℕ} {o : Outset} → o .number ≡ first (judge-checks c table kind limit order (length store) (length scratch) lent)
-      → (o .number ≡ 0 → ⊥) → o .begun ≡ false → SetOut c table kind limit order lent store scratch o store scratch
-  set-out-refused e some off = record { refused = e; still = λ h. (off, refl, refl); started = λ z. absurd (some z) }
+      → (o .number ≡ 0 → ⊥) → o .begun ≡ false → o .held ≡ 0 → SetOut c table kind limit order lent store scratch o store scratch
+  set-out-refused e some off held = record { refused = e; still = λ h. (off, refl, refl, held); started = λ z. absurd (some z) }
 
   -- without one the start is set out
   pub set-out-started : {lent : ℕ} {o : Outset} {store′ scratch′ : List ℕ}

@@ -61,7 +61,7 @@ pub record Begun (c : Counts) (limit : ℕ) (p : Polynomial) (store scratch : Li
 -- what comes before the run: the first refusal, and then all as it was; or the start, and a run where it has room
 pub record SetOut (c : Counts) (table : List ℕ) (kind limit : ℕ) (order : List ℕ) (log : ℕ) (store scratch : List ℕ) (r : Outset) (store′ scratch′ : List ℕ) : Type 0 where
   pub refused : r .number ≡ first (judge-checks c table kind limit order (length store) (length scratch) log)
-  pub still : (r .number ≡ 0 → ⊥) → (r .begun ≡ false) × (store′ ≡ store) × (scratch′ ≡ scratch)
+  pub still : (r .number ≡ 0 → ⊥) → (r .begun ≡ false) × (store′ ≡ store) × (scratch′ ≡ scratch) × (r .held ≡ 0)
   pub started : r .number ≡ 0 → Begun c limit (start (kind-of kind) c table) store scratch (r .held) store′ scratch′ × (r .begun ≡ leb (r .held) limit)
 
 -- what is said where no run begins

@@ -9,7 +9,7 @@ refused-requires : tie.Need-refused-requires
 refused-requires c κs = search needs
 
 returns : tie.Need-returns
-returns c = set-out-refused _ _ _ _ _ _ _ (c .before .refused .ensures) (c .if1 .taken) refl
+returns c = set-out-refused _ _ _ _ _ _ _ (c .before .refused .ensures) (c .if1 .taken) refl refl
 
 begin-requires : tie.Need-begin-requires
 begin-requires c κs =

@@ -40,16 +40,35 @@ pub fn run(limit: u64, repeats: u32) -> bool {
     all_agree
 }
 
-/// One block by all three judges in turn, so that a busy moment of the machine meets them all; none when they disagree.
-fn judged(block: &Block, limit: u64, repeats: u32) -> Option<(Verdict, Times)> {
-    let order = orders::falling(block.made.counts);
-    let question = Question {
+/// Judges every block with the library alone, T = 1,024; says whether each judgement gave the same verdict every time.
+pub fn run_alone(repeats: u32) -> bool {
+    let mut all_agree = true;
+    for block in blocks::all() {
+        let order = orders::falling(block.made.counts);
+        let question = asked(&block, 1_024, &order);
+        let mut lent = Lent::to(&question);
+        let first = by_library(&question, &mut lent);
+        for _ in 1..repeats {
+            all_agree &= by_library(&question, &mut lent) == first;
+        }
+    }
+    all_agree
+}
+
+fn asked<'a>(block: &'a Block, limit: u64, order: &'a [u32]) -> Question<'a> {
+    Question {
         counts: block.made.counts,
         table: &block.made.table,
         kind: block.reading.kind(),
         limit,
-        order: &order,
-    };
+        order,
+    }
+}
+
+/// One block by all three judges in turn, so that a busy moment of the machine meets them all; none when they disagree.
+fn judged(block: &Block, limit: u64, repeats: u32) -> Option<(Verdict, Times)> {
+    let order = orders::falling(block.made.counts);
+    let question = asked(block, limit, &order);
     let (mut to_library, mut to_second) = (Lent::to(&question), Lent::to(&question));
     let mut to_hash = LentToHash::to(&question);
     let mut times = Times {

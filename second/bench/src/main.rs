@@ -14,6 +14,7 @@ use std::process::ExitCode;
 
 const USAGE: &str = "usage:
   bench blocks [T] [REPEATS]  judge the real blocks: the library, the second program, a hash table in C
+  bench alone [REPEATS]       judge the real blocks with the library alone, for a profiler
   bench pairs                 judge the real blocks, and try all their operand pairs
   bench steps                 the time of one step for 1,024 to 16,384 terms
   bench read                  read a text and evaluate a pair: the library, the second program";
@@ -36,10 +37,9 @@ fn outcome(words: &[&str]) -> Option<bool> {
     match words {
         ["blocks"] => Some(blocks::run(1_024, 20)),
         ["blocks", limit] => Some(blocks::run(term_limit(limit)?, 20)),
-        ["blocks", limit, repeats] => {
-            let repeats = repeats.parse().ok().filter(|&repeats| repeats > 0)?;
-            Some(blocks::run(term_limit(limit)?, repeats))
-        }
+        ["blocks", limit, repeats] => Some(blocks::run(term_limit(limit)?, count(repeats)?)),
+        ["alone"] => Some(blocks::run_alone(100)),
+        ["alone", repeats] => Some(blocks::run_alone(count(repeats)?)),
         ["pairs"] => Some(pairs::run()),
         ["steps"] => Some(steps::run()),
         ["read"] => Some(read::run()),
@@ -52,4 +52,9 @@ fn term_limit(word: &str) -> Option<u64> {
     word.parse()
         .ok()
         .filter(|limit| (128..=16_384).contains(limit))
+}
+
+/// How often, at least once.
+fn count(word: &str) -> Option<u32> {
+    word.parse().ok().filter(|&repeats| repeats > 0)
 }

@@ -3,12 +3,12 @@ use mathlib.Core.Path.{_≡_, refl, ap, sym, _∙_}
 use mathlib.Core.Bool.{Bool, true, false, cond}
 use mathlib.Core.List.{List, _++_, append-assoc}
 use Prim.Native.Nat.{ℕ, _+_, _-_, _*_, _/_, _^_, _<_, _≤_}
-use native.Mathlib.Nat.{sub-zero}
+use native.Mathlib.Nat.{sub-zero, add-mul}
 use native.Mathlib.Omega.{arith}
 use lib.Dec.{ltb, leb}
-use lib.ListN.{length, getD, take, drop, replicate, length-replicate, replicate-append-replicate}
+use lib.ListN.{length, getD, take, drop, replicate, length-append, length-drop, length-replicate, replicate-append-replicate}
 use lib.Pow.{pow-pos, pow-mono}
-use lib.Seq.{drop-drop, take-add, take-at, drop-at, length-take-le}
+use lib.Seq.{drop-drop, take-add, take-at, drop-at, length-take-le, getD-drop}
 use borrow.Author.Tests.{ltb-true, ltb-false, le-leb, lt-leb}
 use Rattle.rules.specs.Judging.{polynomial-words, padded}
 use Rattle.rules.specs.Netlist.{variable}
@@ -17,14 +17,14 @@ use Rattle.rules.specs.Steps.{all-replaced}
 use Rattle.rules.specs.Values.{bit}
 use Rattle.rules.proofs.Bits.{bit-out}
 use Rattle.words.specs.Stored.{decoded}
-use Rattle.words.proofs.Stored.{length-decoded, stride-le}
-use Rattle.words.proofs.Encoded.{words-decoded, zeros-behind}
+use Rattle.words.proofs.Stored.{length-decoded, decoded-drop, stride-le}
+use Rattle.words.proofs.Encoded.{length-polynomial-words, polynomial-words-append, words-decoded, zeros-behind}
 use Rattle.poly.specs.Signs.{Apart}
 use Rattle.weave.specs.Seeking.{Last, Uses}
-use Rattle.weave.specs.Written.{Gathered}
 use Rattle.weave.proofs.Places.{set-below}
-use Rattle.poly.specs.Stepping.{Prepared, Ready, Stepped}
+use Rattle.poly.specs.Stepping.{Prepared, Ready, Joined, Stepped}
 use Rattle.poly.specs.declared.gates.Pair.{Pair}
+use Rattle.poly.specs.declared.step.Parts.{Parts}
 use Rattle.poly.proofs.Replacing.{step-alike, step-absent}
 use Rattle.poly.proofs.Tables.{small-of, drop-zeros}
 
@@ -69,19 +69,64 @@ scratch-more k n s f g hf hg =
     let m : k + n - k ≡ n = omega arith in
     hg ∙ rw (a, c, m, ← append-assoc, replicate-append-replicate {A = ℕ} k n 0)
 
--- E words moved to the front of a store that is zeros from word N on; cleared up to word U
-pub moved : (E N U : ℕ) (store scratch d d′ : List ℕ) → E ≤ U → N ≤ U → U ≤ length store → E ≤ length scratch → drop N store ≡ replicate (length store - N) 0
-    → d ≡ take E scratch ++ drop E store → d′ ≡ take E d ++ (replicate (U - E) 0 ++ drop U d) → d′ ≡ take E scratch ++ replicate (length store - E) 0
-moved E N U store scratch d d′ he hn hu hs z c k =
-    let l : length (take E scratch) ≡ E = length-take-le E scratch hs in
-    let f : take E d ≡ take E scratch = ap (λ (x : List ℕ). take E x) c ∙ take-at (take E scratch) (drop E store) E l in
-    let g : drop E d ≡ drop E store = ap (λ (x : List ℕ). drop E x) c ∙ drop-at (take E scratch) (drop E store) E l in
-    let eu : E + (U - E) ≡ U = omega arith in
+-- K words in front of a store that is zeros from word N on; cleared from there up to word U
+cleared-behind : (K N U : ℕ) (front store d d′ : List ℕ) → K ≤ U → N ≤ U → U ≤ length store → length front ≡ K → drop N store ≡ replicate (length store - N) 0
+    → d ≡ front ++ drop K store → d′ ≡ take K d ++ (replicate (U - K) 0 ++ drop U d) → d′ ≡ front ++ replicate (length store - K) 0
+cleared-behind K N U front store d d′ hk hn hu l z c k =
+    let f : take K d ≡ front = ap (λ (x : List ℕ). take K x) c ∙ take-at front (drop K store) K l in
+    let g : drop K d ≡ drop K store = ap (λ (x : List ℕ). drop K x) c ∙ drop-at front (drop K store) K l in
+    let ku : K + (U - K) ≡ U = omega arith in
     let nu : N + (U - N) ≡ U = omega arith in
-    let b : drop U d ≡ drop U store = sym (drop-drop (U - E) E d ∙ rw eu) ∙ ap (λ (x : List ℕ). drop (U - E) x) g ∙ (drop-drop (U - E) E store ∙ rw eu) in
+    let b : drop U d ≡ drop U store = sym (drop-drop (U - K) K d ∙ rw ku) ∙ ap (λ (x : List ℕ). drop (U - K) x) g ∙ (drop-drop (U - K) K store ∙ rw ku) in
     let o : drop U store ≡ replicate (length store - N - (U - N)) 0 = sym (drop-drop (U - N) N store ∙ rw nu) ∙ ap (λ (x : List ℕ). drop (U - N) x) z ∙ drop-zeros (U - N) (length store - N) in
-    let s : U - E + (length store - N - (U - N)) ≡ length store - E = omega arith in
-    k ∙ rw (f, b, o, replicate-append-replicate {A = ℕ} (U - E) (length store - N - (U - N)) 0, s)
+    let s : U - K + (length store - N - (U - N)) ≡ length store - K = omega arith in
+    k ∙ rw (f, b, o, replicate-append-replicate {A = ℕ} (U - K) (length store - N - (U - N)) 0, s)
+
+-- T words of the store shifted from F to E, and the first E of scratch moved in front of them
+module _ (E F T : ℕ) (store scratch d e : List ℕ) (he : E ≤ length scratch) (hf : F + T ≤ length store) (ht : E + T ≤ length store)
+    (hd : d ≡ take E store ++ (take T (drop F store) ++ drop (E + T) store)) (hm : e ≡ take E scratch ++ drop E d) where
+  -- the store then
+  both-there : e ≡ (take E scratch ++ take T (drop F store)) ++ drop (E + T) store
+  both-there =
+      let a : drop E d ≡ take T (drop F store) ++ drop (E + T) store = ap (λ (x : List ℕ). drop E x) hd ∙ drop-at (take E store) (take T (drop F store) ++ drop (E + T) store) E (length-take-le E store (omega arith)) in
+      hm ∙ ap (λ (x : List ℕ). take E scratch ++ x) a ∙ sym (append-assoc (take E scratch) (take T (drop F store)) (drop (E + T) store))
+
+  -- how many words both are
+  both-length : length (take E scratch ++ take T (drop F store)) ≡ E + T
+  both-length =
+      let l : T ≤ length (drop F store) = simp length-drop (omega arith) in
+      simp length-append (omega (arith, length-take-le E scratch he, length-take-le T (drop F store) l))
+
+  -- and with zeros behind both, where there were zeros from word N on
+  moved : (N U : ℕ) (d′ : List ℕ) → E + T ≤ U → N ≤ U → U ≤ length store → drop N store ≡ replicate (length store - N) 0
+      → d′ ≡ take (E + T) e ++ (replicate (U - (E + T)) 0 ++ drop U e) → d′ ≡ take E scratch ++ (take T (drop F store) ++ replicate (length store - (E + T)) 0)
+  moved N U d′ hu hn hl z k =
+      cleared-behind (E + T) N U (take E scratch ++ take T (drop F store)) store e d′ hu hn hl both-length z both-there k
+      ∙ append-assoc (take E scratch) (take T (drop F store)) (replicate (length store - (E + T)) 0)
+
+-- the words of n terms, in two parts
+stride-parts : (at n w : ℕ) → at ≤ n → at * (w + 1) + (n - at) * (w + 1) ≡ n * (w + 1)
+stride-parts at n w h =
+    let m : at + (n - at) ≡ n = omega arith in
+    sym (add-mul at (n - at) (w + 1)) ∙ ap (λ (k : ℕ). k * (w + 1)) m
+
+-- the words of a store's terms from `at` on, and where they go behind `out` others, lie inside
+pub shift-room : (n w at out len : ℕ) → at ≤ n → n * (w + 1) ≤ len → (out + (n - at)) * (w + 1) ≤ len
+    → (at * (w + 1) + (n - at) * (w + 1) ≤ len) × (out * (w + 1) + (n - at) * (w + 1) ≤ len)
+shift-room n w at out len h room both =
+    (omega (arith, stride-parts at n w h), omega (arith, add-mul out (n - at) (w + 1)))
+
+-- `out` terms in front of the n - at last ones of a store that held n, and zeros behind both
+pub settled : (n w at out U : ℕ) (store scratch d e d′ : List ℕ) → at ≤ n → n * (w + 1) ≤ length store → (out + (n - at)) * (w + 1) ≤ length store → out * (w + 1) ≤ length scratch
+    → (out + (n - at)) * (w + 1) ≤ U → n * (w + 1) ≤ U → U ≤ length store → drop (n * (w + 1)) store ≡ replicate (length store - n * (w + 1)) 0
+    → d ≡ take (out * (w + 1)) store ++ (take ((n - at) * (w + 1)) (drop (at * (w + 1)) store) ++ drop (out * (w + 1) + (n - at) * (w + 1)) store)
+    → e ≡ take (out * (w + 1)) scratch ++ drop (out * (w + 1)) d
+    → d′ ≡ take ((out + (n - at)) * (w + 1)) e ++ (replicate (U - (out + (n - at)) * (w + 1)) 0 ++ drop U e)
+    → d′ ≡ take (out * (w + 1)) scratch ++ (take ((n - at) * (w + 1)) (drop (at * (w + 1)) store) ++ replicate (length store - (out + (n - at)) * (w + 1)) 0)
+settled n w at out U store scratch d e d′ h room both hs hu hn hl z hd hm k =
+    let m : (out + (n - at)) * (w + 1) ≡ out * (w + 1) + (n - at) * (w + 1) = add-mul out (n - at) (w + 1) in
+    let i = shift-room n w at out (length store) h room both in
+    rw m (moved (out * (w + 1)) (at * (w + 1)) ((n - at) * (w + 1)) store scratch d e hs (i .0) (i .1) hd hm (n * (w + 1)) U d′ (rw m at hu) hn hl z (rw m at k))
 
 -- zeros for the first E words, where zeros stand behind them
 pub zeros-front : (E : ℕ) (s s′ : List ℕ) → E ≤ length s → drop E s ≡ replicate (length s - E) 0 → s′ ≡ replicate E 0 ++ drop E s → s′ ≡ replicate (length s) 0
@@ -97,23 +142,51 @@ zeros-all E s s′ h z e = zeros-front E s s′ h z (rw (sub-zero E) at e)
 pub zeros-kept : (E : ℕ) (s s′ : List ℕ) → length s′ ≡ length s → s ≡ replicate (length s) 0 → drop E s′ ≡ drop E s → drop E s′ ≡ replicate (length s′ - E) 0
 zeros-kept E s s′ l z e = e ∙ ap (λ (x : List ℕ). drop E x) z ∙ drop-zeros E (length s) ∙ rw l
 
-module _ (w limit r : ℕ) (q : Polynomial) (store scratch made store′ scratch′ : List ℕ) (g : Gathered limit q (decoded w r made) r) where
+-- what is left of the store's terms are some of them
+pub at-in : (w n limit : ℕ) (r : Parts) (q out : Polynomial) (store : List ℕ) → Joined limit q (decoded w n store) r out → r .at ≤ n
+at-in w n limit r q out store g = omega (arith, g .within, length-decoded w n store)
+
+module _ (w n limit : ℕ) (r : Parts) (q : Polynomial) (store scratch made store′ scratch′ : List ℕ) (g : Joined limit q (decoded w n store) r (decoded w (r .out) made)) where
+  -- the terms left are terms of the store
+  left-in : r .at ≤ n
+  left-in = at-in w n limit r q (decoded w (r .out) made) store g
+
+  -- both parts are the step
+  counted : r .out ≤ limit → length q ≡ r .out + (n - r .at)
+  counted h = ap length (sym (g .fits h)) ∙ simp (length-append, length-drop) (omega (arith, length-decoded w n store, length-decoded w (r .out) made))
+
   -- the step fits: its terms are in the store
-  pub stepped-fits : r ≤ limit → ((n : ℕ) → getD made n 0 < 2 ^ 64) → r * (w + 1) ≤ length made → store′ ≡ take (r * (w + 1)) made ++ replicate (length store - r * (w + 1)) 0
-      → scratch′ ≡ replicate (length scratch) 0 → Stepped w limit q store scratch r store′ scratch′
+  pub stepped-fits : r .out + (n - r .at) ≤ limit → ((i : ℕ) → getD made i 0 < 2 ^ 64) → ((i : ℕ) → getD store i 0 < 2 ^ 64) → r .out * (w + 1) ≤ length made → n * (w + 1) ≤ length store
+      → store′ ≡ take (r .out * (w + 1)) made ++ (take ((n - r .at) * (w + 1)) (drop (r .at * (w + 1)) store) ++ replicate (length store - (r .out + (n - r .at)) * (w + 1)) 0)
+      → scratch′ ≡ replicate (length scratch) 0 → Stepped w limit q store scratch (r .out + (n - r .at)) store′ scratch′
   unfolding padded
-  stepped-fits h f room e z =
-      let l : length q ≡ r = ap length (sym (g .fits h)) ∙ length-decoded w r made in
+  stepped-fits h f fs room rooms e z =
+      let few : r .out ≤ limit = omega arith in
+      let l : length q ≡ r .out + (n - r .at) = counted few in
       let t : leb (length q) limit ≡ true = le-leb (length q) limit (omega arith) in
-      let p : polynomial-words w q ≡ take (r * (w + 1)) made = ap (polynomial-words w) (sym (g .fits h)) ∙ words-decoded w r made f room in
-      let n : length (take (r * (w + 1)) made) ≡ r * (w + 1) = length-take-le (r * (w + 1)) made room in
-      record { counted = rw (t, l); stored = rw (t, p, n) e; cleared = z }
+      let tail-in : (n - r .at) * (w + 1) ≤ length (drop (r .at * (w + 1)) store) = simp length-drop (omega (arith, stride-parts (r .at) n w left-in)) in
+      let a : polynomial-words w (decoded w (r .out) made) ≡ take (r .out * (w + 1)) made = words-decoded w (r .out) made f room in
+      let b : polynomial-words w (drop (r .at) (decoded w n store)) ≡ take ((n - r .at) * (w + 1)) (drop (r .at * (w + 1)) store) =
+      ap (polynomial-words w) (decoded-drop w (r .at) n store left-in) ∙ words-decoded w (n - r .at) (drop (r .at * (w + 1)) store) (λ i. rw (getD-drop (r .at * (w + 1)) store i 0) (fs (r .at * (w + 1) + i))) tail-in in
+      let p : polynomial-words w q ≡ take (r .out * (w + 1)) made ++ take ((n - r .at) * (w + 1)) (drop (r .at * (w + 1)) store) =
+      ap (polynomial-words w) (sym (g .fits few)) ∙ polynomial-words-append w (decoded w (r .out) made) (drop (r .at) (decoded w n store)) ∙ rw (a, b) in
+      let k : length (polynomial-words w q) ≡ (r .out + (n - r .at)) * (w + 1) = length-polynomial-words w q ∙ rw l in
+      record {
+        counted = rw (t, l);
+        stored = rw (t, k, p, append-assoc (take (r .out * (w + 1)) made) (take ((n - r .at) * (w + 1)) (drop (r .at * (w + 1)) store)) (replicate (length store - (r .out + (n - r .at)) * (w + 1)) 0)) e;
+        cleared = z;
+      }
+
+  -- where both parts are more than the limit, so is the step
+  more : (t : Bool) → ltb limit (r .out) ≡ t → limit < r .out + (n - r .at) → limit < length q
+  more true d h = g .full (ltb-true limit (r .out) d)
+  more false d h = rw (counted (ltb-false limit (r .out) d)) h
 
   -- it does not: the store is as it was
-  pub stepped-full : limit < r → store′ ≡ store → scratch′ ≡ replicate (length scratch) 0 → Stepped w limit q store scratch r store′ scratch′
+  pub stepped-full : limit < r .out + (n - r .at) → store′ ≡ store → scratch′ ≡ replicate (length scratch) 0 → Stepped w limit q store scratch (limit + 1) store′ scratch′
   stepped-full h e z =
-      let t : leb (length q) limit ≡ false = lt-leb (length q) limit (g .full h) in
-      record { counted = rw t (omega (arith, g .most)); stored = rw t e; cleared = z }
+      let t : leb (length q) limit ≡ false = lt-leb (length q) limit (more (ltb limit (r .out)) refl h) in
+      record { counted = rw t refl; stored = rw t e; cleared = z }
 
 -- v does not occur: the step changes nothing
 pub stepped-same : (w l v x y limit held : ℕ) (store scratch : List ℕ) → Ready w l v x y limit held store scratch → (end : ℕ) → Last v (decoded w held store) end → end ≡ 0

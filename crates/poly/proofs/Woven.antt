@@ -14,9 +14,10 @@ use Rattle.rules.proofs.Gathered.{gather-coefficients}
 use Rattle.words.specs.Stored.{decoded}
 use Rattle.words.proofs.Stored.{decoded-take, length-decoded, stride-le}
 use Rattle.weave.specs.Written.{Gathered, Behind}
-use Rattle.weave.specs.Weaving.{without, Task}
+use Rattle.weave.specs.Weaving.{without, Task, Woven}
+use Rattle.weave.specs.declared.weaving.Place.{Place}
 use Rattle.weave.proofs.Falling.{below-front, coefficients-take}
-use Rattle.poly.specs.Stepping.{holding, Fit, Prepared}
+use Rattle.poly.specs.Stepping.{holding, Fit, Prepared, Joined}
 use Rattle.poly.specs.declared.streams.Gate.{Gate}
 use Rattle.poly.proofs.Parts.{holding-front, step-parts, step-more}
 use Rattle.poly.proofs.Restored.{part-there, restored, front-stays}
@@ -116,9 +117,10 @@ module _ (store : List ℕ) (n w : ℕ) (g : Gate) (x y end : ℕ) (scratch : Li
 
     -- too many were made: so are those of the step, and what was made is cleared
     pub woven-full : 2 * limit < made → (s3 : List ℕ) → s3 ≡ take (limit * (w + 1)) s1 ++ (replicate (limit * (w + 1) + 2 * limit * (w + 1) - limit * (w + 1)) 0 ++ drop (limit * (w + 1) + 2 * limit * (w + 1)) s1)
-        → Gathered limit (gather (2 ^ g .l) (all-replaced (2 ^ g .l) (g .v) x y (decoded w n store))) (decoded w (limit + 1) s3) (limit + 1) × Behind w limit (limit + 1) scratch s3
+        → Joined limit (gather (2 ^ g .l) (all-replaced (2 ^ g .l) (g .v) x y (decoded w n store))) (decoded w n store) (record { out = limit + 1; at = n }) (decoded w (limit + 1) s3) × Behind w limit (limit + 1) scratch s3
     woven-full l s3 e3 = (
       record {
+        within = omega (arith, length-decoded w n store);
         most = omega arith;
         fits = λ k. absurd (omega arith);
         full = λ k. step-more (2 ^ g .l) (g .v) x y limit (decoded w n store) (pow-pos (g .l)) (omega (arith, length-decoded w n store, h .few)) (rw same at (gs .full l));
@@ -130,10 +132,10 @@ module _ (store : List ℕ) (n w : ℕ) (g : Gate) (x y end : ℕ) (scratch : Li
     )
 
     -- the woven terms are those of the step, and what was made is cleared
-    pub woven-fits : made ≤ 2 * limit → (r : ℕ) (s2 s3 : List ℕ)
-        → Gathered limit (gather (2 ^ g .l) (without (g .v) (decoded w n store) ++ decoded w made (drop (limit * (w + 1)) s1))) (decoded w r s2) r → Behind w limit r s1 s2
+    pub woven-fits : made ≤ 2 * limit → (r : Place) (s2 s3 : List ℕ)
+        → Woven (record { n = n; w = w; k = g .k; v = g .v; l = g .l; end = end; made = made; limit = limit }) (decoded w n store) (decoded w made (drop (limit * (w + 1)) s1)) r (decoded w (r .out) s2) → Behind w limit (r .out) s1 s2
         → length s2 ≡ length s1 → s3 ≡ take (limit * (w + 1)) s2 ++ (replicate (limit * (w + 1) + made * (w + 1) - limit * (w + 1)) 0 ++ drop (limit * (w + 1) + made * (w + 1)) s2)
-        → Gathered limit (gather (2 ^ g .l) (all-replaced (2 ^ g .l) (g .v) x y (decoded w n store))) (decoded w r s3) r × Behind w limit r scratch s3
+        → Joined limit (gather (2 ^ g .l) (all-replaced (2 ^ g .l) (g .v) x y (decoded w n store))) (decoded w n store) (record { out = r .out; at = r .at }) (decoded w (r .out) s3) × Behind w limit (r .out) scratch s3
     woven-fits l r s2 s3 gw bw l2 e3 =
         let new : decoded w made (drop (limit * (w + 1)) s1) ≡ gather (2 ^ g .l) (all-replaced (2 ^ g .l) (g .v) x y (holding (g .v) (decoded w n store))) = rw (there, ← same) (gs .fits l) in
         let e : gather (2 ^ g .l) (without (g .v) (decoded w n store) ++ decoded w made (drop (limit * (w + 1)) s1)) ≡ gather (2 ^ g .l) (all-replaced (2 ^ g .l) (g .v) x y (decoded w n store)) =
@@ -141,12 +143,13 @@ module _ (store : List ℕ) (n w : ℕ) (g : Gate) (x y end : ℕ) (scratch : Li
         let back : (k : ℕ) → k ≤ limit * (w + 1) → drop k s2 ≡ drop k s1 → drop k s3 ≡ drop k scratch = λ k a f.
         restored (limit * (w + 1)) scratch part s1 room part-length e1 k (made * (w + 1)) s2 s3 (h .clean) a (omega (arith, made-room l)) (kept (made * (w + 1)) (bs .few l)) (l2 ∙ same-room) f e3 in (
           record {
+            within = gw .within;
             most = gw .most;
-            fits = λ k. front-stays (limit * (w + 1)) scratch part s1 room part-length e1 (r * (w + 1)) (made * (w + 1)) s2 s3 (h .clean) (mul-le-mul-right (w + 1) k) (omega (arith, made-room l)) (kept (made * (w + 1)) (bs .few l)) (l2 ∙ same-room) (bw .few k) e3 w r (mul-le-mul-right (w + 1) k) ∙ gw .fits k ∙ e;
+            fits = λ k. ap (λ (p : Polynomial). p ++ drop (r .at) (decoded w n store)) (front-stays (limit * (w + 1)) scratch part s1 room part-length e1 (r .out * (w + 1)) (made * (w + 1)) s2 s3 (h .clean) (mul-le-mul-right (w + 1) k) (omega (arith, made-room l)) (kept (made * (w + 1)) (bs .few l)) (l2 ∙ same-room) (bw .few k) e3 w (r .out) (mul-le-mul-right (w + 1) k)) ∙ gw .fits k ∙ e;
             full = λ k. rw e at (gw .full k);
           },
           record {
-            few = λ k. back (r * (w + 1)) (mul-le-mul-right (w + 1) k) (bw .few k);
+            few = λ k. back (r .out * (w + 1)) (mul-le-mul-right (w + 1) k) (bw .few k);
             many = λ k. back (limit * (w + 1)) (omega arith) (bw .many k);
           },
         )

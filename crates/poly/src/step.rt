@@ -9,7 +9,7 @@ ghost use Rattle.rules.specs.Polynomial.{Below, gather};
 ghost use Rattle.rules.specs.Steps.{all-replaced};
 ghost use Rattle.words.specs.Stored.{decoded};
 ghost use Rattle.weave.specs.Written.{Gathered, Behind};
-ghost use Rattle.poly.specs.Stepping.{holding, Fit, Ready, Prepared, Stepped};
+ghost use Rattle.poly.specs.Stepping.{holding, Fit, Ready, Prepared, Joined, Stepped};
 use crate::streams::Gate;
 use weave::weaving::Sizes;
 
@@ -38,9 +38,16 @@ fn replacements(
     crate::merging::merge(store, n, w, g, &signs, &masks, &mut at, scratch, limit)
 }
 
-// The step of gate g, the product of the literals x and y, gathered into scratch: how many terms; limit + 1 if there are more
-// than `limit`. No term from `end` on holds the gate's variable. What becomes of those that do is made behind room for `limit`
-// terms, and then woven into the others; more than twice as many could not be cancelled down to the limit.
+// A step in two parts: `out` terms in front of scratch, and behind them the store's from the `at`-th on. More than the limit in
+// scratch means that the step has more.
+pub struct Parts {
+    pub out: usize,
+    pub at: usize,
+}
+
+// The step of gate g, the product of the literals x and y, in two parts. No term from `end` on holds the gate's variable. What
+// becomes of those that do is made behind room for `limit` terms, and then woven into the others; more than twice as many could
+// not be cancelled down to the limit.
 fn gathered(
     store: &[u64],
     n: usize,
@@ -51,10 +58,10 @@ fn gathered(
     end: usize,
     scratch: &mut [u64],
     limit: usize,
-) -> usize
+) -> Parts
     requires { ⌜ Prepared (now store) n w g x y end (now scratch) limit ⌝ }
-    ensures { λ r. ⌜ Gathered limit (gather (2 ^ g .l) (all-replaced (2 ^ g .l) (g .v) x y (decoded w n (now (store .entry))))) (decoded w r (now (scratch .exit))) r
-        × Behind w limit r (now (scratch .entry)) (now (scratch .exit)) ⌝ }
+    ensures { λ r. ⌜ Joined limit (gather (2 ^ g .l) (all-replaced (2 ^ g .l) (g .v) x y (decoded w n (now (store .entry))))) (decoded w n (now (store .entry))) r (decoded w (r .out) (now (scratch .exit)))
+        × Behind w limit (r .out) (now (scratch .entry)) (now (scratch .exit)) ⌝ }
 {
     let stride = w + 1;
     let base = limit * stride;
@@ -62,7 +69,8 @@ fn gathered(
     let made = replacements(store, end, w, g, x, y, &mut scratch[base..], most);
     if made > most {
         words::stretches::clear(scratch, base, base + most * stride);
-        return limit + 1;
+        let out = limit + 1;
+        return Parts { out, at: n };
     }
     let sizes = Sizes {
         n,
@@ -74,9 +82,10 @@ fn gathered(
         made,
         limit,
     };
-    let r = weave::weaving::weave(store, sizes, scratch);
+    let p = weave::weaving::weave(store, sizes, scratch);
     words::stretches::clear(scratch, base, base + made * stride);
-    r
+    let out = p.out;
+    Parts { out, at: p.at }
 }
 
 fn larger(a: usize, b: usize) -> usize
@@ -117,17 +126,21 @@ fn hand_over(scratch: &mut [u64], store: &mut [u64], end: usize)
     }
 }
 
-// Moves the r terms of scratch to the store, which held n, and clears what they leave: a step clears only what it used.
-fn settle(store: &mut [u64], n: usize, w: usize, scratch: &mut [u64], r: usize)
-    requires { ⌜ (w ≤ 16) × (n * (w + 1) ≤ length (now store)) × (r * (w + 1) ≤ length (now store)) × (r * (w + 1) ≤ length (now scratch))
+// Puts both parts of a step together in the store, which held n terms: those from `at` on are shifted to where the `out` terms of
+// scratch end, and these are moved in front of them. It clears what is left over: a step clears only what it used.
+fn settle(store: &mut [u64], n: usize, w: usize, scratch: &mut [u64], at: usize, out: usize)
+    requires { ⌜ (w ≤ 16) × (at ≤ n) × (n * (w + 1) ≤ length (now store)) × ((out + (n - at)) * (w + 1) ≤ length (now store)) × (out * (w + 1) ≤ length (now scratch))
         × (drop (n * (w + 1)) (now store) ≡ replicate (length (now store) - n * (w + 1)) 0)
-        × (drop (r * (w + 1)) (now scratch) ≡ replicate (length (now scratch) - r * (w + 1)) 0) ⌝ }
-    ensures { λ u. ⌜ (now (store .exit) ≡ take (r * (w + 1)) (now (scratch .entry)) ++ replicate (length (now (store .entry)) - r * (w + 1)) 0)
+        × (drop (out * (w + 1)) (now scratch) ≡ replicate (length (now scratch) - out * (w + 1)) 0) ⌝ }
+    ensures { λ u. ⌜ (now (store .exit) ≡ take (out * (w + 1)) (now (scratch .entry)) ++ (take ((n - at) * (w + 1)) (drop (at * (w + 1)) (now (store .entry))) ++ replicate (length (now (store .entry)) - (out + (n - at)) * (w + 1)) 0))
         × (now (scratch .exit) ≡ replicate (length (now (scratch .entry))) 0) ⌝ }
 {
-    let end = r * (w + 1);
-    let most = larger(end, n * (w + 1));
-    hand_over(scratch, store, end);
+    let stride = w + 1;
+    let front = out * stride;
+    let end = (out + (n - at)) * stride;
+    let most = larger(end, n * stride);
+    words::stretches::shift(store, at * stride, front, (n - at) * stride);
+    hand_over(scratch, store, front);
     words::stretches::clear(store, end, most);
 }
 
@@ -147,13 +160,14 @@ fn replace(
     requires { ⌜ Prepared (now store) n w g x y end (now scratch) limit ⌝ }
     ensures { λ r. ⌜ Stepped w limit (gather (2 ^ g .l) (all-replaced (2 ^ g .l) (g .v) x y (decoded w n (now (store .entry))))) (now (store .entry)) (now (scratch .entry)) r (now (store .exit)) (now (scratch .exit)) ⌝ }
 {
-    let r = gathered(store, n, w, g, x, y, end, scratch, limit);
-    if r > limit {
+    let p = gathered(store, n, w, g, x, y, end, scratch, limit);
+    let held = p.out + (n - p.at);
+    if held > limit {
         words::stretches::clear(scratch, 0, limit * (w + 1));
-        return r;
+        return limit + 1;
     }
-    settle(store, n, w, scratch, r);
-    r
+    settle(store, n, w, scratch, p.at, p.out);
+    held
 }
 
 // The step of gate v with the literals x and y in the store, w words to a set and l bits to a coefficient: how many terms it then

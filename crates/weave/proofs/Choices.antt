@@ -18,7 +18,7 @@ module _ (z : Sizes) (store scratch : List ℕ) (k : Place) (m : Midway z store 
   -- the store is at its end: a new term is left
   pub head-end : going-on z k ≡ true → k .at ≡ k .stop → z .n ≤ k .at → Head z (old-terms z store) (new-terms z scratch) k
   head-end g e l = record {
-    some = still-going z k g .1 l;
+    some = still-going z k g .1 (omega (arith, m .task .end-in));
     all = λ d. omega (arith, stop-in z store scratch scratch k m);
     under = λ d. absurd (omega arith);
   }

@@ -1,20 +1,19 @@
 -- The turns, one after another.
 use mathlib.Core.Path.{_≡_, refl, ap, _∙_}
 use mathlib.Core.Bool.{true, false}
-use mathlib.Core.List.{List, _++_}
-use mathlib.Core.Logic.{⊎-elim}
-use Prim.Native.Nat.{ℕ, _+_, _*_, _^_, _<_, _≤_}
+use mathlib.Core.List.{List}
+use Prim.Native.Nat.{ℕ, _+_, _*_}
+use native.Mathlib.Omega.{arith}
 use lib.ListN.{length, drop}
-use Rattle.rules.specs.Polynomial.{gather}
 use Rattle.words.specs.Stored.{decoded}
 use Rattle.words.proofs.Stored.{length-decoded}
 use Rattle.weave.specs.Seeking.{Stop}
-use Rattle.weave.specs.Weaving.{old-terms, new-terms, without, Task, State, Midway, Turned, going-on}
-use Rattle.weave.specs.Written.{Behind, Gathered}
+use Rattle.weave.specs.Weaving.{old-terms, new-terms, Task, State, Midway, Turned, Woven, going-on}
+use Rattle.weave.specs.Written.{Behind}
 use Rattle.weave.specs.declared.weaving.Place.{Place}
 use Rattle.weave.specs.declared.weaving.Sizes.{Sizes}
 use Rattle.weave.proofs.Growing.{behind-none, behind-limit, behind-after}
-use Rattle.weave.proofs.States.{gone-on, still-going, state-begin, state-end, state-full}
+use Rattle.weave.proofs.States.{gone-on, still-going, state-begin, state-end}
 
 -- what the turns from scratch₀ on have left
 pub record Underway (z : Sizes) (store scratch₀ scratch : List ℕ) (k : Place) : Type 0 where
@@ -67,9 +66,7 @@ module _ (z : Sizes) (store scratch₀ : List ℕ) (t : Task z store scratch₀)
     }
 
     -- after the last
-    pub underway-end : going-on z k ≡ false
-        → Gathered (z .limit) (gather (2 ^ z .l) (without (z .v) (old-terms z store) ++ new-terms z scratch₀)) (decoded (z .w) (k .out) scratch) (k .out)
-    underway-end g = ⊎-elim
-        (λ (l : z .limit < k .out). state-full z (old-terms z store) (new-terms z scratch₀) (length-decoded (z .w) (z .n) store) (length-decoded (z .w) (z .made) (drop (z .limit * (z .w + 1)) scratch₀)) (t .falls) (t .new-falls) k (decoded (z .w) (k .out) scratch) (h .state) l)
-        (λ (l : (z .n ≤ k .at) × (z .made ≤ k .used)). state-end z (old-terms z store) (new-terms z scratch₀) (length-decoded (z .w) (z .n) store) (length-decoded (z .w) (z .made) (drop (z .limit * (z .w + 1)) scratch₀)) (t .falls) (t .new-falls) k (decoded (z .w) (k .out) scratch) (h .state) (l .0) (l .1))
-        (gone-on z k g)
+    pub underway-end : going-on z k ≡ false → Woven z (old-terms z store) (new-terms z scratch₀) k (decoded (z .w) (k .out) scratch)
+    underway-end g =
+        let n : length (old-terms z store) ≡ z .n = length-decoded (z .w) (z .n) store in
+        state-end z (old-terms z store) (new-terms z scratch₀) n (length-decoded (z .w) (z .made) (drop (z .limit * (z .w + 1)) scratch₀)) (t .falls) (t .new-falls) k (decoded (z .w) (k .out) scratch) (h .state) (omega (arith, t .end-in)) (λ i a b. t .free i a (omega arith)) (t .coefficients) (gone-on z k g)

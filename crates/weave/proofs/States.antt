@@ -15,16 +15,15 @@ use borrow.Author.Tests.{lt-ltb, le-ltb, ltb-true, ltb-false, leb-true, leb-fals
 use Rattle.rules.specs.Polynomial.{Polynomial, Below, Coefficients, Under, gather}
 use Rattle.rules.proofs.Gathered.{under-of}
 use Rattle.weave.specs.Merging.{Merging, floor, two}
-use Rattle.weave.specs.Seeking.{Stop}
-use Rattle.weave.specs.Weaving.{without, State, Head, Stretch, going-on, meeting}
-use Rattle.weave.specs.Written.{Gathered}
+use Rattle.weave.specs.Seeking.{Free, Stop}
+use Rattle.weave.specs.Weaving.{without, State, Woven, Head, Stretch, going-on, meeting}
 use Rattle.weave.specs.declared.weaving.Place.{Place}
 use Rattle.weave.specs.declared.weaving.Sizes.{Sizes}
 use Rattle.weave.proofs.Falling.{floor-above, coefficients-at, coefficients-take, coefficients-drop}
 use Rattle.weave.proofs.Fronts.{under-append}
 use Rattle.weave.proofs.Growing.{Grown, Room, room-full, room-more}
-use Rattle.weave.proofs.Without.{without-end, without-held, without-some, without-free, without-below}
-use Rattle.weave.proofs.Woven.{two-lows, first-low, second-low, weave-none, weave-stretch, weave-end, head-sums, heads-sums}
+use Rattle.weave.proofs.Without.{without-end, without-held, without-some, without-free, without-rest, without-below}
+use Rattle.weave.proofs.Woven.{two-lows, first-low, second-low, weave-none, weave-stretch, weave-rest, head-sums, heads-sums}
 
 -- the next one that holds v, seen from a later term
 pub stop-later : (v : ℕ) (p : Polynomial) (at stop to : ℕ) → Stop v p at stop → at ≤ to → to ≤ stop → Stop v p to stop
@@ -50,26 +49,26 @@ pub meeting-none : (p q : Polynomial) (k : Place) → k .stop ≤ k .at → meet
 unfolding meeting
 meeting-none p q k h = rw (le-ltb (k .at) (k .stop) h)
 
--- there is no room, or no term is left
-pub gone-on : (z : Sizes) (k : Place) → going-on z k ≡ false → (z .limit < k .out) ⊎ ((z .n ≤ k .at) × (z .made ≤ k .used))
+-- there is no room, or no new term and none that holds v is left
+pub gone-on : (z : Sizes) (k : Place) → going-on z k ≡ false → (z .limit < k .out) ⊎ ((z .end ≤ k .at) × (z .made ≤ k .used))
 unfolding going-on
-gone-on z k = go (leb (k .out) (z .limit)) (ltb (k .at) (z .n)) (ltb (k .used) (z .made)) refl refl refl
+gone-on z k = go (leb (k .out) (z .limit)) (ltb (k .at) (z .end)) (ltb (k .used) (z .made)) refl refl refl
   where
-    go : (a b c : Bool) → leb (k .out) (z .limit) ≡ a → ltb (k .at) (z .n) ≡ b → ltb (k .used) (z .made) ≡ c → (a && (b || c)) ≡ false → (z .limit < k .out) ⊎ ((z .n ≤ k .at) × (z .made ≤ k .used))
+    go : (a b c : Bool) → leb (k .out) (z .limit) ≡ a → ltb (k .at) (z .end) ≡ b → ltb (k .used) (z .made) ≡ c → (a && (b || c)) ≡ false → (z .limit < k .out) ⊎ ((z .end ≤ k .at) × (z .made ≤ k .used))
     go false b c x y w e = inl (leb-false _ _ x)
     go true false false x y w e = inr (ltb-false _ _ y, ltb-false _ _ w)
     go true true c x y w e = absurd (true≢false e)
     go true false true x y w e = absurd (true≢false e)
 
--- there is room, and a term is left
-pub still-going : (z : Sizes) (k : Place) → going-on z k ≡ true → (k .out ≤ z .limit) × ((z .n ≤ k .at) → k .used < z .made)
+-- there is room; where none that holds v is left, a new term is
+pub still-going : (z : Sizes) (k : Place) → going-on z k ≡ true → (k .out ≤ z .limit) × ((z .end ≤ k .at) → k .used < z .made)
 unfolding going-on
-still-going z k = go (leb (k .out) (z .limit)) (ltb (k .at) (z .n)) (ltb (k .used) (z .made)) refl refl refl
+still-going z k = go (leb (k .out) (z .limit)) (ltb (k .at) (z .end)) (ltb (k .used) (z .made)) refl refl refl
   where
-    go : (a b c : Bool) → leb (k .out) (z .limit) ≡ a → ltb (k .at) (z .n) ≡ b → ltb (k .used) (z .made) ≡ c → (a && (b || c)) ≡ true → (k .out ≤ z .limit) × ((z .n ≤ k .at) → k .used < z .made)
+    go : (a b c : Bool) → leb (k .out) (z .limit) ≡ a → ltb (k .at) (z .end) ≡ b → ltb (k .used) (z .made) ≡ c → (a && (b || c)) ≡ true → (k .out ≤ z .limit) × ((z .end ≤ k .at) → k .used < z .made)
     go false b c x y w e = absurd (false≢true e)
     go true false false x y w e = absurd (false≢true e)
-    go true true c x y w e = (leb-true _ _ x, λ h. absurd (omega (arith, ltb-true (k .at) (z .n) y)))
+    go true true c x y w e = (leb-true _ _ x, λ h. absurd (omega (arith, ltb-true (k .at) (z .end) y)))
     go true false true x y w e = (leb-true _ _ x, λ h. ltb-true _ _ w)
 
 module _ (z : Sizes) (p q : Polynomial) (np : length p ≡ z .n) (nq : length q ≡ z .made)
@@ -225,15 +224,20 @@ module _ (z : Sizes) (p q : Polynomial) (np : length p ≡ z .n) (nq : length q 
             full = r .full;
           }
 
-  -- no term is left: what is written is the result
-  pub state-end : (k : Place) (out : Polynomial) → State z p q k out → z .n ≤ k .at → z .made ≤ k .used → Gathered (z .limit) (gather (2 ^ z .l) (without (z .v) p ++ q)) out (k .out)
-  state-end k out h a b = record {
+  -- no new term and none that holds v is left, or there was no room
+  pub state-end : (k : Place) (out : Polynomial) → State z p q k out → z .end ≤ length p → Free (z .v) p (z .end) (length p) → Coefficients (2 ^ z .l) p
+      → (z .limit < k .out) ⊎ ((z .end ≤ k .at) × (z .made ≤ k .used)) → Woven z p q k out
+  state-end k out h e f c g = record {
+    within = within;
     most = h .most;
-    fits = λ d. weave-end (2 ^ z .l) (2 ^ (64 * z .k)) (without (z .v) p ++ q) out (pow-pos (z .l)) all-under
-        (rw (without-end (z .v) (k .at) p (omega arith), drop-of-length-le q {i = k .used} (omega arith)) at (h .going d));
+    fits = λ d. ⊎-elim (λ (l : z .limit < k .out). absurd (omega arith)) (λ l. rest d (l .0) (l .1)) g;
     full = h .full;
   }
+    where
+      within : k .at ≤ length p
+      within = omega (arith, h .stop .low, h .stop .high)
 
-  -- there was no room
-  pub state-full : (k : Place) (out : Polynomial) → State z p q k out → z .limit < k .out → Gathered (z .limit) (gather (2 ^ z .l) (without (z .v) p ++ q)) out (k .out)
-  state-full k out h l = record { most = h .most; fits = λ d. absurd (omega arith); full = h .full }
+      rest : k .out ≤ z .limit → z .end ≤ k .at → z .made ≤ k .used → out ++ drop (k .at) p ≡ gather (2 ^ z .l) (without (z .v) p ++ q)
+      rest d a b = weave-rest (2 ^ z .l) (2 ^ (64 * z .k)) (without (z .v) p ++ q) out (drop (k .at) p) (pow-pos (z .l)) all-under
+          (rw (without-rest (z .v) (k .at) p within (λ i x y. f i (omega arith) y), drop-of-length-le q {i = k .used} (omega arith)) at (h .going d))
+          (coefficients-drop (2 ^ z .l) (k .at) p c)

@@ -1,13 +1,13 @@
 -- The terms that do not hold v.
 use mathlib.Core.Path.{_≡_, _∙_}
 use mathlib.Core.Bool.{Bool, true, false, cond}
-use mathlib.Core.List.{[], _∷_, _++_}
-use Prim.Native.Nat.{ℕ, zero, suc, _+_, _<_, _≤_}
+use mathlib.Core.List.{[], _∷_, _++_, append-nil}
+use Prim.Native.Nat.{ℕ, zero, suc, _+_, _-_, _<_, _≤_}
 use native.Mathlib.Nat.{add-zero}
 use native.Mathlib.Omega.{arith}
 use lib.Dec.{eqb}
-use lib.ListN.{length, getD, take, drop, drop-of-length-le}
-use lib.Seq.{drop-cons}
+use lib.ListN.{length, getD, take, drop, length-drop, drop-of-length-le}
+use lib.Seq.{take-all, drop-cons}
 use borrow.Author.Tests.{eq-eqb, ne-eqb}
 use Rattle.rules.specs.Values.{bit}
 use Rattle.rules.specs.Polynomial.{Polynomial, Below}
@@ -38,6 +38,14 @@ without-free v (suc d) at p l h =
     let some : without v (drop at p) ≡ getD p at (0, 0) ∷ without v (drop (suc at) p) = without-some v at p (omega arith) (h at (omega arith) (omega arith)) in
     let more : without v (drop (suc at) p) ≡ take d (drop (suc at) p) ++ without v (drop (suc at + d) p) = without-free v d (suc at) p (omega arith) (λ i a b. h i (omega arith) (omega arith)) in
     some ∙ rw (more, e, drop-cons p at (0, 0) (omega arith))
+
+-- so do all that are left, where none holds v
+pub without-rest : (v at : ℕ) (p : Polynomial) → at ≤ length p → Free v p at (length p) → without v (drop at p) ≡ drop at p
+without-rest v at p l h =
+    let e : at + (length p - at) ≡ length p = omega arith in
+    let n : length (drop at p) ≤ length p - at = simp length-drop (omega arith) in
+    without-free v (length p - at) at p (omega arith) (rw e h)
+    ∙ rw (e, without-end v (length p) p (omega arith), take-all (length p - at) (drop at p) n, append-nil (drop at p))
 
 -- they fall
 pub without-below : (v b : ℕ) (p : Polynomial) → Below b p → Below b (without v p)

@@ -1,14 +1,15 @@
 -- Two falling lists merged: a stretch of the first, the head of the second, both heads where they have one set.
-use mathlib.Core.Path.{_≡_, refl, ap, sym, _∙_}
-use mathlib.Core.List.{[], _∷_, _++_, append-nil}
+use mathlib.Core.Path.{_≡_, sym}
+use mathlib.Core.List.{[], _∷_, _++_}
 use Prim.Native.Nat.{ℕ, zero, suc, _+_, _%_, _<_}
-use native.Mathlib.Nat.{zero-add, mod-add-mod}
+use native.Mathlib.Nat.{add-zero, zero-add, mod-add-mod}
 use native.Mathlib.Omega.{arith}
-use Rattle.rules.specs.Each.{sum, joined}
+use Rattle.rules.specs.Each.{sum}
 use Rattle.rules.specs.Polynomial.{Term, Polynomial, hit, coefficient-at, Below, Coefficients, Under, gather}
 use Rattle.rules.proofs.Terms.{hit-add, hit-mod, coefficient-cons, coefficient-append}
+use Rattle.rules.proofs.Gathered.{unique}
 use Rattle.weave.specs.Merging.{Lows, floor, Merging, two}
-use Rattle.weave.proofs.Fronts.{below-append, coefficients-append, merge-front}
+use Rattle.weave.proofs.Fronts.{below-append, coefficients-append}
 use Rattle.weave.proofs.Falling.{below-front, below-back, floor-append}
 
 -- the sum over two lists
@@ -76,16 +77,9 @@ heads-sums m a b x y s u =
     let e : coefficient-at (x ∷ a) u + coefficient-at (y ∷ b) u ≡ hit u (y .1) (y .0 + x .0) + (coefficient-at a u + coefficient-at b u) = omega (arith, coefficient-cons x a u, coefficient-cons y b u, hit-add (y .1) u (y .0) (x .0)) in
     rw (two-sum (x ∷ a) (y ∷ b) u, two-sum a b u, e, hit-mod (y .1) u m (y .0 + x .0)) (sym (mod-add-mod (hit u (y .1) (y .0 + x .0)) m (coefficient-at a u + coefficient-at b u)))
 
--- neither has a term left
-joined-two : joined 2 (two [] []) ≡ []
-unfolding joined two
-joined-two = refl
-
--- nothing to gather
-pub no-gather : (m : ℕ) (out : Polynomial) → out ++ gather m [] ≡ out
-unfolding gather
-no-gather m out = append-nil out
-
--- what is written is then the result
-pub weave-end : (m hi : ℕ) (r out : Polynomial) → 0 < m → Under hi r → Merging m hi 2 r out (two [] []) → out ≡ gather m r
-weave-end m hi r out hm hr g = sym (merge-front m hi 2 r hm hr out (two [] []) g ∙ ap (λ (q : Polynomial). out ++ gather m q) joined-two ∙ no-gather m out)
+-- the second has no term left: what is written and the rest of the first are then the result
+pub weave-rest : (m hi : ℕ) (r out a : Polynomial) → 0 < m → Under hi r → Merging m hi 2 r out (two a []) → Coefficients m a → out ++ a ≡ gather m r
+unfolding coefficient-at
+weave-rest m hi r out a hm hr g c =
+    unique m hi (out ++ a) r hm (below-append hi out a (g .falls) (first-low m hi r out a [] g)) (coefficients-append m out a (g .coefs) c) hr
+    (λ u. rw (coefficient-append out a u) (rw add-zero at (two-coefficients m hi r out a [] g u)))

@@ -51,9 +51,16 @@ pub record State (z : Sizes) (p q : Polynomial) (k : Place) (out : Polynomial) :
   pub going : k .out ≤ z .limit → Merging (2 ^ z .l) (2 ^ (64 * z .k)) 2 (without (z .v) p ++ q) out (two (without (z .v) (drop (k .at) p)) (drop (k .used) q))
   pub full : z .limit < k .out → z .limit < length (gather (2 ^ z .l) (without (z .v) p ++ q))
 
--- terms are left, and room
+-- where the weave ended: what is written, and behind it the terms of p that are left, are both lists gathered; or there is no room
+pub record Woven (z : Sizes) (p q : Polynomial) (r : Place) (out : Polynomial) : Type 0 where
+  pub within : r .at ≤ length p
+  pub most : r .out ≤ z .limit + 1
+  pub fits : r .out ≤ z .limit → out ++ drop (r .at) p ≡ gather (2 ^ z .l) (without (z .v) p ++ q)
+  pub full : z .limit < r .out → z .limit < length (gather (2 ^ z .l) (without (z .v) p ++ q))
+
+-- there is room, and a new term or one that holds v is left
 unfoldable pub going-on : Sizes → Place → Bool
-going-on z k = leb (k .out) (z .limit) && (ltb (k .at) (z .n) || ltb (k .used) (z .made))
+going-on z k = leb (k .out) (z .limit) && (ltb (k .at) (z .end) || ltb (k .used) (z .made))
 
 -- the terms that are left
 abbrev pub left : Sizes → Place → ℕ

@@ -1,19 +1,18 @@
 // The weave: the terms of a store that do not hold v, and new terms, gathered into one falling list in front of scratch. The new ones
-// stand in scratch behind room for as many terms as the limit allows. Between two new terms, the store's are copied in one go.
+// stand in scratch behind room for as many terms as the limit allows. Between two new terms, the store's are copied in one go; those
+// behind the last new term and the last one that holds v stay where they are.
 use crate::seeking::above;
 use crate::seeking::holding;
 use words::coefficients::sum;
 use words::sets::Order;
 ghost use mathlib.Core.Path.{_≡_};
 ghost use mathlib.Core.Bool.{true};
-ghost use mathlib.Core.List.{_++_};
 ghost use Prim.Native.Nat.{_+_, _*_, _^_, _<_, _≤_};
 ghost use lib.ListN.{length};
-ghost use Rattle.rules.specs.Polynomial.{gather};
 ghost use Rattle.words.specs.Numbers.{words-at};
 ghost use Rattle.words.specs.Stored.{decoded};
-ghost use Rattle.weave.specs.Written.{Emitted, Gathered, Behind};
-ghost use Rattle.weave.specs.Weaving.{Task, Midway, Head, Stretch, Turned, going-on, meeting, without, old-terms, new-terms};
+ghost use Rattle.weave.specs.Written.{Emitted, Behind};
+ghost use Rattle.weave.specs.Weaving.{Task, Midway, Head, Stretch, Turned, Woven, going-on, meeting, old-terms, new-terms};
 
 // What is woven: n terms of a store, none of which holds v from `end` on, and as many new ones as were made. A set has w words and
 // uses k; a coefficient has l bits.
@@ -152,18 +151,19 @@ fn turn(store: &[u64], z: Sizes, scratch: &mut [u64], p: Place) -> Place
     take_new(store, z, scratch, p)
 }
 
-// Whether terms are left, and room.
+// Whether there is room, and a new term or one that holds v is left.
 fn goes_on(z: Sizes, p: Place) -> bool
     ensures { λ r. ⌜ r ≡ going-on z p ⌝ }
 {
-    (p.out <= z.limit) & ((p.at < z.n) | (p.used < z.made))
+    (p.out <= z.limit) & ((p.at < z.end) | (p.used < z.made))
 }
 
-// Both lists gathered into one in front of scratch, at most `limit` terms: how many; limit + 1 if there are more.
-pub fn weave(store: &[u64], z: Sizes, scratch: &mut [u64]) -> usize
+// Both lists gathered into one in front of scratch, but for the store's last terms, which stay as they are: where that ended. At most
+// `limit` terms are written; `out` is limit + 1 if there are more.
+pub fn weave(store: &[u64], z: Sizes, scratch: &mut [u64]) -> Place
     requires { ⌜ Task z (now store) (now scratch) ⌝ }
-    ensures { λ r. ⌜ Gathered (z .limit) (gather (2 ^ z .l) (without (z .v) (old-terms z (now (store .entry))) ++ new-terms z (now (scratch .entry)))) (decoded (z .w) r (now (scratch .exit))) r
-        × Behind (z .w) (z .limit) r (now (scratch .entry)) (now (scratch .exit)) ⌝ }
+    ensures { λ r. ⌜ Woven z (old-terms z (now (store .entry))) (new-terms z (now (scratch .entry))) r (decoded (z .w) (r .out) (now (scratch .exit)))
+        × Behind (z .w) (z .limit) (r .out) (now (scratch .entry)) (now (scratch .exit)) ⌝ }
 {
     let stop = holding(store, z.n, z.w, z.v, 0, z.end);
     let mut p = Place {
@@ -175,5 +175,5 @@ pub fn weave(store: &[u64], z: Sizes, scratch: &mut [u64]) -> usize
     while goes_on(z, p) {
         p = turn(store, z, scratch, p);
     }
-    p.out
+    p
 }

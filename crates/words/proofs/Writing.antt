@@ -1,14 +1,14 @@
 -- Laws of the loops that write words.
 use mathlib.Core.Path.{_≡_, ap, sym, _∙_}
 use mathlib.Core.List.{List, _∷_, _++_, append-assoc}
-use Prim.Native.Nat.{ℕ, _+_, _-_, _<_, _≤_, _^_, _%_}
+use Prim.Native.Nat.{ℕ, suc, _+_, _-_, _<_, _≤_, _^_, _%_}
 use native.Mathlib.Nat.{sub-self, mod-add-mod, add-mod-right}
 use native.Mathlib.Numerals.{add-one}
 use native.Mathlib.Omega.{arith}
 use lib.Bits.{bitXor}
 use lib.ListN.{length, getD, take, drop, set, replicate, length-replicate, replicate-append-replicate, length-take, length-drop, length-append, take-append-drop}
 use lib.Pow.{mod-mod-pow}
-use lib.Seq.{drop-cons, set-at, paste, paste-suc, drop-paste, take-all, take-suc-set, drop-set-lt, getD-drop}
+use lib.Seq.{drop-cons, set-at, take-at, append-snoc, paste, paste-suc, drop-paste, drop-drop, take-all, take-suc, take-suc-set, length-take-le, drop-set-lt, getD-drop, getD-take}
 use Rattle.words.specs.Numbers.{words-at, masked}
 use Rattle.words.proofs.Numbers.{length-masked, getD-masked}
 
@@ -54,6 +54,49 @@ carry-more d e h t k l n q =
 pub carry-term : (d e : List ℕ) (h t c w : ℕ) → t < h → t < length d → e ≡ paste (set d t c) (t + 1) (drop h (set d t c)) w
     → e ≡ take t d ++ ((c ∷ words-at d h w) ++ drop (t + (w + 1)) d)
 carry-term d e h t c w l n q = write-term d e (words-at d h w) t c w n (rw (drop-set-lt h d t c l) at q)
+
+-- the last word of a front replaced by one of the words up to it
+raise-word : (d r : List ℕ) (i j : ℕ) → i ≤ j → j < length d
+    → set (take (suc j) d ++ r) j (getD (take (suc j) d ++ r) i 0) ≡ take j d ++ getD d i 0 ∷ r
+raise-word d r i j l h =
+    let same : getD (take (suc j) d ++ r) i 0 ≡ getD d i 0 =
+    sym (getD-take (suc j) (take (suc j) d ++ r) i 0 (omega arith))
+    ∙ ap (λ (x : List ℕ). getD x i 0) (take-at (take (suc j) d) r (suc j) (length-take-le (suc j) d (omega arith)))
+    ∙ getD-take (suc j) d i 0 (omega arith) in
+    let front : take (suc j) d ++ r ≡ take j d ++ getD d j 0 ∷ r =
+    ap (λ (x : List ℕ). x ++ r) (take-suc d j 0 h) ∙ append-snoc (take j d) (getD d j 0) r in
+    ap (λ (x : ℕ). set (take (suc j) d ++ r) j x) same ∙ ap (λ (x : List ℕ). set x j (getD d i 0)) front
+    ∙ set-at (take j d) (getD d j 0) r (getD d i 0) j (length-take-le j d (omega arith))
+
+-- no word moved behind yet
+pub raise-none : (d : List ℕ) (f t n : ℕ) → d ≡ take (t + n) d ++ (take (n - n) (drop (f + n) d) ++ drop (t + n) d)
+raise-none d f t n = rw sub-self (sym (take-append-drop (t + n) d))
+
+-- one more word moved behind, with k words left before it and j after it
+pub raise-more : (d e : List ℕ) (f t n k j : ℕ) → f ≤ t → t + n ≤ length d → k ≤ n → j + 1 ≡ k
+    → e ≡ take (t + k) d ++ (take (n - k) (drop (f + k) d) ++ drop (t + n) d)
+    → set e (t + j) (getD e (f + j) 0) ≡ take (t + j) d ++ (take (n - j) (drop (f + j) d) ++ drop (t + n) d)
+raise-more d e f t n k j l h m p q =
+    let a : t + k ≡ suc (t + j) = omega arith in
+    let b : suc (f + j) ≡ f + k = omega arith in
+    let c : n - j ≡ suc (n - k) = omega arith in
+    let word : take (n - j) (drop (f + j) d) ≡ getD d (f + j) 0 ∷ take (n - k) (drop (f + k) d) =
+    ap (λ (x : ℕ). take x (drop (f + j) d)) c ∙ ap (take (suc (n - k))) (drop-cons d (f + j) 0 (omega arith))
+    ∙ ap (λ (x : ℕ). getD d (f + j) 0 ∷ take (n - k) (drop x d)) b in
+    rw (q, a, word) (raise-word d (take (n - k) (drop (f + k) d) ++ drop (t + n) d) (f + j) (t + j) (omega arith) (omega arith))
+
+-- all of them moved
+pub raise-all : (d e : List ℕ) (f t n k : ℕ) → k ≡ 0 → e ≡ take (t + k) d ++ (take (n - k) (drop (f + k) d) ++ drop (t + n) d)
+    → e ≡ take t d ++ (take n (drop f d) ++ drop (t + n) d)
+raise-all d e f t n k z q =
+    let a : t + k ≡ t = omega arith in
+    let b : n - k ≡ n = omega arith in
+    let c : f + k ≡ f = omega arith in
+    rw (a, b, c) at q
+
+-- words moved to where they stand
+pub move-none : (d : List ℕ) (f t n : ℕ) → f ≡ t → d ≡ take t d ++ (take n (drop f d) ++ drop (t + n) d)
+move-none d f t n e = sym (rw (e, ← drop-drop n t d, take-append-drop n (drop t d)) (take-append-drop t d))
 
 -- no word cleared yet
 pub clear-none : (d : List ℕ) (f : ℕ) → d ≡ take f d ++ (replicate (f - f) 0 ++ drop f d)

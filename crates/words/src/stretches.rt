@@ -1,4 +1,4 @@
-// Stretches of words: copied, cleared.
+// Stretches of words: copied, cleared, moved.
 ghost use mathlib.Core.Path.{_≡_};
 ghost use mathlib.Core.List.{_++_};
 ghost use Prim.Native.Nat.{_+_, _-_, _<_, _≤_};
@@ -25,5 +25,44 @@ pub fn clear(words: &mut [u64], from: usize, end: usize)
     while k < end {
         words[k] = 0;
         k += 1;
+    }
+}
+
+// Moves the n words at `from` to `to`, further in front or the same place.
+fn move_down(words: &mut [u64], from: usize, to: usize, n: usize)
+    requires { ⌜ (to ≤ from) × (from + n ≤ length (now words)) ⌝ }
+    ensures { λ r. ⌜ now (words .exit) ≡ take to (now (words .entry)) ++ (take n (drop from (now (words .entry))) ++ drop (to + n) (now (words .entry))) ⌝ }
+{
+    let mut k = 0;
+    while k < n {
+        words[to + k] = words[from + k];
+        k += 1;
+    }
+}
+
+// Moves the n words at `from` to `to`, further behind or the same place: the last word first, so that none is overwritten
+// before it is moved.
+fn move_up(words: &mut [u64], from: usize, to: usize, n: usize)
+    requires { ⌜ (from ≤ to) × (to + n ≤ length (now words)) ⌝ }
+    ensures { λ r. ⌜ now (words .exit) ≡ take to (now (words .entry)) ++ (take n (drop from (now (words .entry))) ++ drop (to + n) (now (words .entry))) ⌝ }
+{
+    let mut k = n;
+    while k > 0 {
+        k -= 1;
+        words[to + k] = words[from + k];
+    }
+}
+
+// Moves the n words at `from` to `to`. What stood at `from` and is not overwritten stays.
+pub fn shift(words: &mut [u64], from: usize, to: usize, n: usize)
+    requires { ⌜ (from + n ≤ length (now words)) × (to + n ≤ length (now words)) ⌝ }
+    ensures { λ r. ⌜ now (words .exit) ≡ take to (now (words .entry)) ++ (take n (drop from (now (words .entry))) ++ drop (to + n) (now (words .entry))) ⌝ }
+{
+    if to < from {
+        move_down(words, from, to, n);
+        return;
+    }
+    if from < to {
+        move_up(words, from, to, n);
     }
 }

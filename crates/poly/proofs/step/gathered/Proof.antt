@@ -52,8 +52,8 @@ add-clear c = search needs
 clear-requires : tie.Need-clear-requires
 clear-requires c κs = search needs
 
-add-result : tie.Need-add-result
-add-result c = search needs
+add-out : tie.Need-add-out
+add-out c = search needs
 
 same-length : tie.Need-same-length
 same-length c = search needs
@@ -115,7 +115,7 @@ gathered-spec =
     mul-clear
     add-clear
     clear-requires
-    add-result
+    add-out
     same-length
     returns
     weave-requires

@@ -2,10 +2,11 @@
 use mathlib.Core.Path.{_≡_, refl, ap, sym, _∙_}
 use mathlib.Core.List.{List, [], _∷_}
 use mathlib.Core.Logic.{⊎-elim}
-use Prim.Native.Nat.{ℕ, zero, suc, _+_, _%_, _^_, _<_, _≤_}
+use Prim.Native.Nat.{ℕ, zero, suc, _+_, _*_, _%_, _^_, _<_, _≤_}
 use native.Mathlib.Nat.{mod-add-mod, add-mod-mod}
 use native.Mathlib.Omega.{arith}
 use lib.Bits.{bitXor, xor-lt}
+use lib.ListN.{getD}
 use lib.Pow.{pow-pos}
 use Rattle.rules.specs.Each.{sum, joined}
 use Rattle.rules.specs.Netlist.{variable}
@@ -15,14 +16,25 @@ use Rattle.rules.specs.Steps.{replaced, all-replaced}
 use Rattle.rules.proofs.Indices.{sum-same, sum-add}
 use Rattle.rules.proofs.Terms.{coefficient-append, coefficient-joined}
 use Rattle.rules.proofs.Gathered.{keep-coefficient, gather-same}
-use Rattle.poly.specs.Signs.{scale, if-held, sign, mask-of}
-use Rattle.poly.specs.Streams.{sign-of, weight, row, stream, streams, Tables}
+use Rattle.gates.specs.Signs.{scale, if-held, sign}
+use Rattle.gates.specs.Masks.{mask-of}
+use Rattle.merge.specs.Streams.{sign-of, weight, row, stream, streams}
 use Rattle.poly.specs.Stepping.{holding}
-use Rattle.poly.specs.declared.streams.Gate.{Gate}
-use Rattle.poly.proofs.Flipped.{bit-lt, bit-two}
-use Rattle.poly.proofs.Flow.{scale-none, keep-none}
+use Rattle.merge.specs.declared.streams.Gate.{Gate}
+use Rattle.gates.proofs.Flipped.{bit-lt, bit-two}
+use Rattle.merge.proofs.Flow.{scale-none, keep-none}
 use Rattle.poly.proofs.Parts.{first, second}
-use Rattle.poly.proofs.Replacing.{Small, term-sum, shift, in-of}
+use Rattle.gates.proofs.Replacing.{Small, term-sum, shift, in-of}
+
+-- the tables are those of the product of the literals x and y, over two variables that are not v, or 0
+pub record Tables (g : Gate) (x y : ℕ) (signs : List ℕ) (mask : ℕ → ℕ) : Type 0 where
+  pub x-is : g .x ≡ variable x
+  pub y-is : g .y ≡ variable y
+  pub x-off : g .x ≡ g .v → ⊥
+  pub y-off : g .y ≡ g .v → ⊥
+  pub apart : g .x ≡ g .y → g .y ≡ 0
+  pub signed : (rx ry j : ℕ) → rx < 2 → ry < 2 → j < 4 → getD signs ((rx + 2 * ry) * 4 + j) 0 ≡ sign x y rx ry j
+  pub masked : (j : ℕ) → j < 4 → mask j ≡ mask-of (g .v) (g .x) (g .y) j
 
 -- sums that agree modulo m
 sums : (m a b c d : ℕ) → a % m ≡ c % m → b % m ≡ d % m → (a + b) % m ≡ (c + d) % m

@@ -10,14 +10,14 @@ use lib.Dec.{ltb, eqb}
 use lib.ListN.{length, take}
 use borrow.Author.Tests.{eq-eqb, ne-eqb}
 use Rattle.rules.specs.Values.{bit}
-use Rattle.rules.specs.Polynomial.{Term, Polynomial, coefficient-at, hit, keep, place, insert, gather}
+use Rattle.rules.specs.Polynomial.{Term, Polynomial, Below, Coefficients, coefficient-at, hit, keep, place, insert, gather}
 use Rattle.rules.specs.Steps.{where-held, replaced, all-replaced}
 use Rattle.rules.proofs.Terms.{coefficient-append}
-use Rattle.rules.proofs.Gathered.{gather-same, gather-coefficient}
+use Rattle.rules.proofs.Gathered.{gather-same, gather-coefficient, unique, under-of}
 use Rattle.weave.specs.Seeking.{Free}
 use Rattle.weave.specs.Weaving.{without}
 use Rattle.poly.specs.Stepping.{holding}
-use Rattle.poly.proofs.Flipped.{bit-two}
+use Rattle.gates.proofs.Flipped.{bit-two}
 
 -- a term without v stands in the first part
 pub first : (v : ℕ) (t : Term) (p : Polynomial) → bit (t .1) v ≡ 0 → (without v (t ∷ p) ≡ t ∷ without v p) × (holding v (t ∷ p) ≡ holding v p)
@@ -113,3 +113,14 @@ pub step-more : (m v x y limit : ℕ) (p : Polynomial) → 0 < m → length p �
     → limit < length (gather m (all-replaced m v x y p))
 step-more m v x y limit p l h k =
     rw (← both m v x y l p) (omega (arith, gather-length m (without v p) (all-replaced m v x y (holding v p)), without-length v p))
+
+-- a term without v stays
+replaced-absent : (m v x y : ℕ) (p : Polynomial) → Free v p 0 (length p) → all-replaced m v x y p ≡ p
+unfolding all-replaced replaced where-held
+replaced-absent m v x y [] h = refl
+replaced-absent m v x y (t ∷ p) h = rw (h 0 (omega arith) (omega arith), replaced-absent m v x y p (λ i a b. h (suc i) (omega arith) (omega arith)))
+
+-- where v does not occur nothing changes
+pub step-absent : (m v x y b : ℕ) (p : Polynomial) → 0 < m → Below b p → Coefficients m p → Free v p 0 (length p) → gather m (all-replaced m v x y p) ≡ p
+step-absent m v x y b p h l c a =
+    rw (replaced-absent m v x y p a) (sym (unique m b p p h l c (under-of b b p (omega arith) l) (λ u. refl)))

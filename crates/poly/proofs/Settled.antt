@@ -19,14 +19,15 @@ use Rattle.rules.proofs.Bits.{bit-out}
 use Rattle.words.specs.Stored.{decoded}
 use Rattle.words.proofs.Stored.{length-decoded, decoded-drop, stride-le}
 use Rattle.words.proofs.Encoded.{length-polynomial-words, polynomial-words-append, words-decoded, zeros-behind}
-use Rattle.poly.specs.Signs.{Apart}
+use Rattle.gates.specs.Literals.{Apart}
 use Rattle.weave.specs.Seeking.{Last, Uses}
 use Rattle.weave.proofs.Places.{set-below}
 use Rattle.poly.specs.Stepping.{Prepared, Ready, Joined, Stepped}
-use Rattle.poly.specs.declared.gates.Pair.{Pair}
+use Rattle.gates.specs.declared.literals.Pair.{Pair}
 use Rattle.poly.specs.declared.step.Parts.{Parts}
-use Rattle.poly.proofs.Replacing.{step-alike, step-absent}
-use Rattle.poly.proofs.Tables.{small-of, drop-zeros}
+use Rattle.gates.proofs.Replacing.{step-alike, small-of}
+use Rattle.poly.proofs.Parts.{step-absent}
+use Rattle.gates.proofs.Tables.{drop-zeros}
 
 -- the larger of two numbers
 pub larger-than : (a b u : ℕ) → u ≡ cond (ltb a b) b a → (a ≤ u) × (b ≤ u) × ((c : ℕ) → a ≤ c → b ≤ c → u ≤ c)

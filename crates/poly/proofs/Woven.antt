@@ -18,7 +18,7 @@ use Rattle.weave.specs.Weaving.{without, Task, Woven}
 use Rattle.weave.specs.declared.weaving.Place.{Place}
 use Rattle.weave.proofs.Falling.{below-front, coefficients-take}
 use Rattle.poly.specs.Stepping.{holding, Fit, Prepared, Joined}
-use Rattle.poly.specs.declared.streams.Gate.{Gate}
+use Rattle.merge.specs.declared.streams.Gate.{Gate}
 use Rattle.poly.proofs.Parts.{holding-front, step-parts, step-more}
 use Rattle.poly.proofs.Restored.{part-there, restored, front-stays}
 

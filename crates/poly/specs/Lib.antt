@@ -1,4 +1,2 @@
 -- What a step is in lent words.
-pub mod Signs
-pub mod Streams
 pub mod Stepping

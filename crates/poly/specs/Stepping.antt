@@ -11,7 +11,7 @@ use Rattle.rules.specs.Polynomial.{Polynomial, Below, Coefficients}
 use Rattle.rules.specs.Values.{bit}
 use Rattle.words.specs.Stored.{decoded}
 use Rattle.weave.specs.Seeking.{Last}
-use Rattle.poly.specs.declared.streams.Gate.{Gate}
+use Rattle.merge.specs.declared.streams.Gate.{Gate}
 use Rattle.poly.specs.declared.step.Parts.{Parts}
 
 -- the terms that hold v

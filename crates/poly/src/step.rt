@@ -10,7 +10,7 @@ ghost use Rattle.rules.specs.Steps.{all-replaced};
 ghost use Rattle.words.specs.Stored.{decoded};
 ghost use Rattle.weave.specs.Written.{Gathered, Behind};
 ghost use Rattle.poly.specs.Stepping.{holding, Fit, Ready, Prepared, Joined, Stepped};
-use crate::streams::Gate;
+use merge::streams::Gate;
 use weave::weaving::Sizes;
 
 // What becomes of the terms that hold the gate's variable, where it is the product of the literals x and y, gathered into scratch:
@@ -33,9 +33,9 @@ fn replacements(
     let mut signs = [0u8; 16];
     let mut masks = [0u64; 64];
     let mut at = [0usize; 4];
-    crate::gates::sign_table(&mut signs, x, y);
-    crate::gates::mask_table(&mut masks, w, g.v, g.x, g.y);
-    crate::merging::merge(store, n, w, g, &signs, &masks, &mut at, scratch, limit)
+    gates::signs::sign_table(&mut signs, x, y);
+    gates::masks::mask_table(&mut masks, w, g.v, g.x, g.y);
+    merge::merging::merge(store, n, w, g, &signs, &masks, &mut at, scratch, limit)
 }
 
 // A step in two parts: `out` terms in front of scratch, and behind them the store's from the `at`-th on. More than the limit in
@@ -191,7 +191,7 @@ pub fn step(
     if end == 0 {
         return held;
     }
-    let p = crate::gates::apart(x, y);
+    let p = gates::literals::apart(x, y);
     let a = p.x;
     let b = p.y;
     let k = weave::seeking::words_used(store, held, w);

@@ -5,15 +5,16 @@ use Prim.Native.Nat.{ℕ}
 use native.Mathlib.Omega.{arith}
 use lib.ListN.{length}
 use Rattle.words.specs.Stored.{decoded}
-use Rattle.poly.proofs.Tables.{mask-none, held, masks-short, lows, gathered, falls}
+use Rattle.gates.proofs.Tables.{mask-none}
+use Rattle.poly.proofs.Tables.{held, masks-short, lows, gathered, falls}
 use borrow.Author.Needs.{needs}
 use Rattle.poly.proofs.step.replacements.Statement.{statement}
 use Rattle.poly.proofs.step.replacements.Tie as tie
 use Rattle.poly.proofs.step.replacements.Reads as reads
 use Rattle.poly.proofs.step.replacements.Lts as lts
-use Rattle.poly.proofs.merging.merge.Reads as merge-reads
-use Rattle.poly.proofs.gates.mask_table.Reads as mask-table-reads
-use Rattle.poly.proofs.gates.sign_table.Reads as sign-table-reads
+use Rattle.merge.proofs.merging.merge.Reads as merge-reads
+use Rattle.gates.proofs.masks.mask_table.Reads as mask-table-reads
+use Rattle.gates.proofs.signs.sign_table.Reads as sign-table-reads
 
 slice-aggregate-sign-table : tie.Need-slice-aggregate-sign-table
 slice-aggregate-sign-table c = search needs

@@ -7,7 +7,7 @@ use Rattle.poly.proofs.step.step.Statement.{statement}
 use Rattle.poly.proofs.step.step.Tie as tie
 use Rattle.poly.proofs.step.step.Reads as reads
 use Rattle.poly.proofs.step.step.Lts as lts
-use Rattle.poly.proofs.gates.apart.Reads as apart-reads
+use Rattle.gates.proofs.literals.apart.Reads as apart-reads
 use Rattle.poly.proofs.step.replace.Reads as replace-reads
 use Rattle.weave.proofs.seeking.last_holding.Reads as last-holding-reads
 use Rattle.weave.proofs.seeking.words_used.Reads as words-used-reads

@@ -1,0 +1,4 @@
+-- Why the merge meets its specifications.
+pub mod Flow
+pub mod Sweeps
+pub mod Merges

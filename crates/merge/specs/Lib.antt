@@ -1,0 +1,2 @@
+-- What the merge of the streams of a step is.
+pub mod Streams

@@ -1,5 +1,4 @@
 // The second pass over lines that the first found right: their literals go into the table.
-ghost use mathlib.Core.Path.{_≡_};
 ghost use Prim.Native.Nat.{_+_, _*_, _≤_};
 ghost use lib.ListN.{length, drop};
 ghost use Rattle.rules.specs.Reading.{output-line, gate-line, lines};

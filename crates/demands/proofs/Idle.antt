@@ -1,12 +1,12 @@
 -- What a step makes at most, and that an idle step changes nothing.
-use mathlib.Core.Path.{_≡_, refl, ap, sym, _∙_}
-use mathlib.Core.List.{List, [], _∷_, _++_}
-use Prim.Native.Nat.{ℕ, zero, suc, _+_, _-_, _*_, _^_, _<_, _≤_}
+use mathlib.Core.Path.{_≡_, refl, sym}
+use mathlib.Core.List.{[], _∷_}
+use Prim.Native.Nat.{ℕ, zero, suc, _-_, _*_, _^_, _<_, _≤_}
 use native.Mathlib.Omega.{arith}
 use lib.ListN.{length, getD, length-append}
 use Rattle.rules.specs.Netlist.{variable, inverted, rhs0, rhs1}
 use Rattle.rules.specs.Values.{bit}
-use Rattle.rules.specs.Polynomial.{Term, Polynomial, Under, times-variable, times-literal}
+use Rattle.rules.specs.Polynomial.{Term, Polynomial, times-variable, times-literal}
 use Rattle.rules.specs.Steps.{where-held, replaced, all-replaced, step}
 use Rattle.rules.proofs.Gathered.{unique, under-of}
 use Rattle.demands.specs.Polynomials.{FourTerms, StepIdle}

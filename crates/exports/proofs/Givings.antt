@@ -4,13 +4,12 @@ use mathlib.Core.Bool.{Bool, true, false, cond}
 use mathlib.Core.List.{List, [], _∷_, _++_}
 use Prim.Native.Nat.{ℕ, zero, suc, _+_, _<_, _≤_}
 use native.Mathlib.Omega.{arith}
-use lib.Dec.{ltb}
 use lib.ListN.{length, drop, set}
 use borrow.Author.Tests.{lt-ltb, le-ltb}
 use Rattle.rules.specs.Judging.{Inputs, Judged, judge-checks, checks, refusal, judging}
 use Rattle.rules.specs.Says.{says, Says, refuses, answers, first, refuse-or, text-says, word-says}
 use Rattle.rules.specs.Values.{evaluate-checks, evaluating, shown, Evaluated}
-use Rattle.rules.specs.Reading.{reading, reading-says, table-after, ReadAs, netlist, refused, Netlist}
+use Rattle.rules.specs.Reading.{reading, reading-says, ReadAs, netlist, refused, Netlist}
 use Rattle.rules.specs.declared.answers.Answer.{Answer}
 use Rattle.rules.specs.declared.answers.StepRecord.{StepRecord}
 use Rattle.rules.specs.declared.answers.Text.{Text}
@@ -21,7 +20,7 @@ use Rattle.rules.specs.declared.counts.Counts.{Counts}
 use Rattle.demands.specs.Refusals.{Unread, header, counts, short, inputs, outputs, gates, after}
 use Rattle.demands.proofs.Readings.{Outcome, said}
 use Rattle.demands.proofs.Verdicts.{verdict-on, verdict-answers}
-use Rattle.exports.specs.Exported.{number-of, given, unless-short, read-said, ReadGiven, evaluate-said, EvaluateGiven, JudgeGiven, Refusing}
+use Rattle.exports.specs.Exported.{number-of, given, unless-short, ReadGiven, EvaluateGiven, JudgeGiven, Refusing}
 
 -- five words in front
 pub five-put : (a b c d e : ℕ) (list : List ℕ) → 5 ≤ length list → set (set (set (set (set list 0 a) 1 b) 2 c) 3 d) 4 e ≡ a ∷ b ∷ c ∷ d ∷ e ∷ drop 5 list

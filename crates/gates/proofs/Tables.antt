@@ -86,7 +86,7 @@ module _ (m : List ℕ) (j w v x : ℕ) (h : j * w + w ≤ length m) (l : v < 64
 -- nothing is turned
 pub mask-stays : (m : List ℕ) (w j v d : ℕ) → d ≡ 0 → Turned w j v d m m
 unfolding turned-by
-mask-stays m w j v d e = record { here = rw e; there = λ i n. refl }
+mask-stays m w j v d e = record { here = rw e; there = λ i n. refl; behind = λ b k. refl }
 
 -- a variable turned in the j-th mask
 pub mask-turned : (m m′ : List ℕ) (j w v d : ℕ) → j * w + w ≤ length m → ((n : ℕ) → getD m n 0 < 2 ^ 64) → v < 64 * w → (d ≡ 0 → ⊥)
@@ -96,6 +96,7 @@ mask-turned m m′ j w v zero h f l nz e = absurd (nz refl)
 mask-turned m m′ j w v (suc d) h f l nz e = record {
   here = rw e (turned-set m (j * w) w v h f l);
   there = λ i n. rw e (others-stay m j w v (bitXor (getD m (j * w + v / 64) 0) (2 ^ (v % 64))) h l i n);
+  behind = λ b k. rw (e, drop-set-lt b m (j * w + v / 64) (bitXor (getD m (j * w + v / 64) 0) (2 ^ (v % 64))) (omega arith));
 }
 
 -- three turns make the mask of a stream
@@ -113,6 +114,7 @@ pub mask-made : (w v x y j : ℕ) (m0 m1 m2 m3 : List ℕ) → j < 4 → mask-at
 mask-made w v x y j m0 m1 m2 m3 l z t1 t2 t3 = record {
   here = rw (t3 .here, t2 .here, t1 .here, z) (turns v x y j l);
   there = λ i n. t3 .there i n ∙ t2 .there i n ∙ t1 .there i n;
+  behind = λ b k. t3 .behind b k ∙ t2 .behind b k ∙ t1 .behind b k;
 }
 
 -- the masks made so far, and zeros

@@ -1,8 +1,9 @@
 -- The masks of a gate's streams: what each changes in a term's set.
 use mathlib.Core.Path.{_≡_}
 use mathlib.Core.List.{List}
-use Prim.Native.Nat.{ℕ, zero, suc, _*_, _^_}
+use Prim.Native.Nat.{ℕ, zero, suc, _+_, _*_, _^_, _≤_}
 use lib.Bits.{bitXor}
+use lib.ListN.{drop}
 use Rattle.words.specs.Numbers.{num, words-at}
 
 -- what stream j changes in a set
@@ -21,12 +22,14 @@ unfoldable pub turned-by : ℕ → ℕ → ℕ → ℕ
 turned-by zero s v = s
 turned-by (suc d) s v = bitXor s (2 ^ v)
 
--- v was so turned in the j-th mask, and the others are as they were
+-- v was so turned in the j-th mask, and the others are as they were, and the words behind it
 pub record Turned (w j v d : ℕ) (m m′ : List ℕ) : Type 0 where
   pub here : mask-at w m′ j ≡ turned-by d (mask-at w m j) v
   pub there : (i : ℕ) → (i ≡ j → ⊥) → mask-at w m′ i ≡ mask-at w m i
+  pub behind : (b : ℕ) → j * w + w ≤ b → drop b m′ ≡ drop b m
 
--- the j-th mask is that of stream j, and the others are as they were
+-- the j-th mask is that of stream j, and the others are as they were, and the words behind it
 pub record Masked (w v x y j : ℕ) (m m′ : List ℕ) : Type 0 where
   pub here : mask-at w m′ j ≡ mask-of v x y j
   pub there : (i : ℕ) → (i ≡ j → ⊥) → mask-at w m′ i ≡ mask-at w m i
+  pub behind : (b : ℕ) → j * w + w ≤ b → drop b m′ ≡ drop b m

@@ -1,7 +1,7 @@
 // A gate as masks: what each stream changes in a term's set.
 ghost use mathlib.Core.Path.{_≡_};
 ghost use Prim.Native.Nat.{ℕ, _+_, _*_, _<_, _≤_};
-ghost use lib.ListN.{length};
+ghost use lib.ListN.{length, drop};
 ghost use Rattle.gates.specs.Masks.{mask-of, mask-at, Turned, Masked};
 
 // Turns v in the j-th mask where d is not 0.
@@ -28,7 +28,7 @@ fn mask(masks: &mut [u64], j: usize, w: usize, v: usize, x: usize, y: usize)
 // The masks of gate v over the variables x and y.
 pub fn mask_table(masks: &mut [u64], w: usize, v: usize, x: usize, y: usize)
     requires { ⌜ (4 * w ≤ length (now masks)) × (v < 64 * w) × (x < 64 * w) × (y < 64 * w) × ((j : ℕ) → j < 4 → mask-at w (now masks) j ≡ 0) ⌝ }
-    ensures { λ r. ⌜ ((j : ℕ) → j < 4 → mask-at w (now (masks .exit)) j ≡ mask-of v x y j) ⌝ }
+    ensures { λ r. ⌜ ((j : ℕ) → j < 4 → mask-at w (now (masks .exit)) j ≡ mask-of v x y j) × (drop (4 * w) (now (masks .exit)) ≡ drop (4 * w) (now (masks .entry))) ⌝ }
 {
     let mut j = 0;
     while j < 4 {

@@ -1,17 +1,17 @@
 -- The run so far, with no code in it: what holds after k steps, how a turn takes it further, and how it ends.
 use mathlib.Core.Path.{_≡_, refl, ap, sym, _∙_}
-use mathlib.Core.Bool.{Bool, true, false, cond}
-use mathlib.Core.List.{List, [], _∷_, _++_}
-use Prim.Native.Nat.{ℕ, zero, suc, pred, _+_, _-_, _*_, _^_, _<_, _≤_}
+use mathlib.Core.Bool.{true, false}
+use mathlib.Core.List.{List, [], _∷_}
+use Prim.Native.Nat.{ℕ, zero, suc, _+_, _^_, _<_, _≤_}
 use native.Mathlib.Numerals.{add-one}
 use native.Mathlib.Omega.{arith}
 use lib.Dec.{leb, ltb}
 use lib.ListN.{length, getD, take, drop, set, replicate, length-append, length-take, length-drop, drop-of-length-le}
 use lib.Seq.{drop-cons, take-suc, set-at, append-snoc, length-take-le}
-use borrow.Author.Tests.{lt-ltb, le-ltb, ltb-true, leb-true, leb-false}
+use borrow.Author.Tests.{lt-ltb, le-ltb, leb-false}
 use Rattle.rules.specs.Each.{every}
-use Rattle.rules.specs.Judging.{is-gate, set-width, roomy, held, completed, polynomial-words, padded, over, records}
-use Rattle.rules.specs.Polynomial.{Polynomial, Below}
+use Rattle.rules.specs.Judging.{is-gate, set-width, roomy, held, completed, over, records}
+use Rattle.rules.specs.Polynomial.{Polynomial}
 use Rattle.rules.specs.Steps.{step, trail}
 use Rattle.rules.specs.declared.answers.StepRecord.{StepRecord}
 use Rattle.rules.specs.declared.counts.Counts.{Counts}

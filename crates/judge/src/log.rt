@@ -1,7 +1,7 @@
 // The log: one record for each step completed.
 use rules::answers::StepRecord;
 ghost use mathlib.Core.Path.{_≡_};
-ghost use Prim.Native.Nat.{_+_, _<_};
+ghost use Prim.Native.Nat.{_<_};
 ghost use lib.ListN.{set, length};
 
 // Writes record k.

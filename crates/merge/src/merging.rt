@@ -5,7 +5,7 @@ ghost use Rattle.rules.specs.Polynomial.{gather};
 ghost use Rattle.words.specs.Numbers.{words-at, masked};
 ghost use Rattle.words.specs.Stored.{decoded};
 ghost use Rattle.weave.specs.Merging.{Lows};
-ghost use Rattle.weave.specs.Written.{Emitted, Gathered, Behind};
+ghost use Rattle.weave.specs.Written.{Emitted, Gathered, Behind, Kept};
 ghost use Rattle.merge.specs.Streams.{Next, Held, Masks, stream, streams};
 ghost use Rattle.gates.specs.Masks.{mask-at};
 use crate::streams::Gate;
@@ -70,7 +70,8 @@ fn run(
     out
 }
 
-// All streams gathered into scratch, at most `limit` terms: how many; limit + 1 if there are more.
+// All four streams gathered into scratch, at most `limit` terms: how many. With more the answer is limit + 1, and what was written is
+// cleared.
 pub fn merge(
     store: &[u64],
     n: usize,
@@ -78,15 +79,19 @@ pub fn merge(
     g: Gate,
     signs: &[u8],
     masks: &[u64],
-    at: &mut [usize],
     scratch: &mut [u64],
     limit: usize,
 ) -> usize
-    requires { ⌜ Held (now store) n w g (now signs) × Masks (now store) (now masks) n w (length (now at)) (g .k) × (0 < length (now at)) × (length (now at) ≤ 4) × (limit * (w + 1) ≤ length (now scratch))
-        × Lows (2 ^ (64 * w)) (length (now at)) (λ j. stream g (now signs) (mask-at w (now masks)) j (decoded w n (now store))) ⌝ }
-    ensures { λ r. ⌜ Gathered limit (gather (2 ^ g .l) (streams g (now (signs .entry)) (mask-at w (now (masks .entry))) (length (now (at .entry))) (decoded w n (now (store .entry))))) (decoded w r (now (scratch .exit))) r
-        × Behind w limit r (now (scratch .entry)) (now (scratch .exit)) ⌝ }
+    requires { ⌜ Held (now store) n w g (now signs) × Masks (now store) (now masks) n w 4 (g .k) × (limit * (w + 1) ≤ length (now scratch))
+        × Lows (2 ^ (64 * w)) 4 (λ j. stream g (now signs) (mask-at w (now masks)) j (decoded w n (now store))) ⌝ }
+    ensures { λ r. ⌜ Gathered limit (gather (2 ^ g .l) (streams g (now (signs .entry)) (mask-at w (now (masks .entry))) 4 (decoded w n (now (store .entry))))) (decoded w r (now (scratch .exit))) r
+        × Kept w limit r (now (scratch .entry)) (now (scratch .exit)) ⌝ }
 {
-    crate::streams::begin(store, n, w, g, signs, at);
-    run(store, n, w, g, signs, masks, at, scratch, limit)
+    let mut at = [0usize; 4];
+    crate::streams::begin(store, n, w, g, signs, &mut at);
+    let count = run(store, n, w, g, signs, masks, &mut at, scratch, limit);
+    if count > limit {
+        words::stretches::clear(scratch, 0, limit * (w + 1));
+    }
+    count
 }

@@ -25,6 +25,13 @@ take-zeros b n h =
     let f : replicate {A = ℕ} n 0 ≡ replicate b 0 ++ replicate (n - b) 0 = sym (replicate-append-replicate {A = ℕ} b (n - b) 0 ∙ rw q) in
     ap (λ (x : List ℕ). take b x) f ∙ take-at (replicate b 0) (replicate (n - b) 0) b (length-replicate b 0)
 
+-- zeros from word b on, d of them cleared again, are as they were
+pub zeros-again : (b d : ℕ) (s part : List ℕ) → s ≡ replicate (length s) 0 → b + d ≤ length s → part ≡ replicate d 0 ++ drop d (drop b s) → part ≡ drop b s
+zeros-again b d s part z h e =
+    let f : drop b s ≡ replicate (length s - b) 0 = ap (λ (x : List ℕ). drop b x) z ∙ drop-zeros b (length s) in
+    let n : d + (length s - b - d) ≡ length s - b = omega arith in
+    e ∙ rw (f, drop-zeros d (length s - b), replicate-append-replicate {A = ℕ} d (length s - b - d) 0, n)
+
 -- s1 is s with the part from word b on written anew
 module _ (b : ℕ) (s part s1 : List ℕ) (hb : b ≤ length s) (lp : length part ≡ length s - b) (e1 : s1 ≡ take b s ++ (part ++ drop (length s - b) (drop b s))) where
   -- behind the part there is nothing

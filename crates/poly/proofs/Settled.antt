@@ -21,10 +21,11 @@ use Rattle.words.proofs.Stored.{length-decoded, decoded-drop, stride-le}
 use Rattle.words.proofs.Encoded.{length-polynomial-words, polynomial-words-append, words-decoded, zeros-behind}
 use Rattle.gates.specs.Literals.{Apart}
 use Rattle.weave.specs.Seeking.{Last, Uses}
+use Rattle.weave.specs.Weaving.{Joined}
 use Rattle.weave.proofs.Places.{set-below}
-use Rattle.poly.specs.Stepping.{Prepared, Ready, Joined, Stepped}
+use Rattle.poly.specs.Stepping.{Prepared, Ready, Stepped}
 use Rattle.gates.specs.declared.literals.Pair.{Pair}
-use Rattle.poly.specs.declared.step.Parts.{Parts}
+use Rattle.weave.specs.declared.weaving.Parts.{Parts}
 use Rattle.gates.proofs.Replacing.{step-alike, small-of}
 use Rattle.poly.proofs.Parts.{step-absent}
 use Rattle.gates.proofs.Tables.{drop-zeros}

@@ -13,14 +13,15 @@ use Rattle.rules.specs.Steps.{all-replaced}
 use Rattle.rules.proofs.Gathered.{gather-coefficients}
 use Rattle.words.specs.Stored.{decoded}
 use Rattle.words.proofs.Stored.{decoded-take, length-decoded, stride-le}
-use Rattle.weave.specs.Written.{Gathered, Behind}
-use Rattle.weave.specs.Weaving.{without, Task, Woven}
-use Rattle.weave.specs.declared.weaving.Place.{Place}
+use Rattle.weave.specs.Written.{Gathered, Behind, Kept}
+use Rattle.weave.specs.Weaving.{without, Task, Joined}
+use Rattle.weave.specs.declared.weaving.Parts.{Parts}
 use Rattle.weave.proofs.Falling.{below-front, coefficients-take}
-use Rattle.poly.specs.Stepping.{holding, Fit, Prepared, Joined}
+use Rattle.weave.proofs.Growing.{kept-behind}
+use Rattle.poly.specs.Stepping.{holding, Fit, Prepared}
 use Rattle.merge.specs.declared.streams.Gate.{Gate}
 use Rattle.poly.proofs.Parts.{holding-front, step-parts, step-more}
-use Rattle.poly.proofs.Restored.{part-there, restored, front-stays}
+use Rattle.poly.proofs.Restored.{zeros-again, part-there, restored, front-stays}
 
 module _ (store : List ℕ) (n w : ℕ) (g : Gate) (x y end : ℕ) (scratch : List ℕ) (limit : ℕ) (h : Prepared store n w g x y end scratch limit) where
   -- the terms up to the last that holds v are terms of the store
@@ -73,7 +74,7 @@ module _ (store : List ℕ) (n w : ℕ) (g : Gate) (x y end : ℕ) (scratch : Li
       (e1 : s1 ≡ take (limit * (w + 1)) scratch ++ (part ++ drop (length scratch - limit * (w + 1)) (drop (limit * (w + 1)) scratch)))
       (gs : Gathered (2 * limit) (gather (2 ^ g .l) (all-replaced (2 ^ g .l) (g .v) x y (holding (g .v) (decoded w end store)))) (decoded w made part) made)
       (fs : (e : ℕ) → g .v < e → Below (2 ^ e) (decoded w end store) → made ≤ 2 * limit → Below (2 ^ e) (decoded w made part))
-      (bs : Behind w (2 * limit) made (take (length scratch - limit * (w + 1)) (drop (limit * (w + 1)) scratch)) part) where
+      (bs : Kept w (2 * limit) made (take (length scratch - limit * (w + 1)) (drop (limit * (w + 1)) scratch)) part) where
     -- the part before it was written
     before : take (length scratch - limit * (w + 1)) (drop (limit * (w + 1)) scratch) ≡ drop (limit * (w + 1)) scratch
     before = take-all (length scratch - limit * (w + 1)) (drop (limit * (w + 1)) scratch) (simp length-drop (omega arith))
@@ -115,28 +116,30 @@ module _ (store : List ℕ) (n w : ℕ) (g : Gate) (x y end : ℕ) (scratch : Li
     kept : (d : ℕ) → drop d part ≡ drop d (take (length scratch - limit * (w + 1)) (drop (limit * (w + 1)) scratch)) → drop d part ≡ drop d (drop (limit * (w + 1)) scratch)
     kept d e = e ∙ ap (λ (s : List ℕ). drop d s) before
 
-    -- too many were made: so are those of the step, and what was made is cleared
-    pub woven-full : 2 * limit < made → (s3 : List ℕ) → s3 ≡ take (limit * (w + 1)) s1 ++ (replicate (limit * (w + 1) + 2 * limit * (w + 1) - limit * (w + 1)) 0 ++ drop (limit * (w + 1) + 2 * limit * (w + 1)) s1)
-        → Joined limit (gather (2 ^ g .l) (all-replaced (2 ^ g .l) (g .v) x y (decoded w n store))) (decoded w n store) (record { out = limit + 1; at = n }) (decoded w (limit + 1) s3) × Behind w limit (limit + 1) scratch s3
-    woven-full l s3 e3 = (
+    -- too many were made: so are those of the step, and scratch is as it was
+    pub woven-full : 2 * limit < made
+        → Joined limit (gather (2 ^ g .l) (all-replaced (2 ^ g .l) (g .v) x y (decoded w n store))) (decoded w n store) (record { out = limit + 1; at = n }) (decoded w (limit + 1) s1) × Behind w limit (limit + 1) scratch s1
+    woven-full l = (
       record {
         within = omega (arith, length-decoded w n store);
         most = omega arith;
         fits = λ k. absurd (omega arith);
         full = λ k. step-more (2 ^ g .l) (g .v) x y limit (decoded w n store) (pow-pos (g .l)) (omega (arith, length-decoded w n store, h .few)) (rw same at (gs .full l));
+        none-left = λ k. omega (arith, length-decoded w n store);
       },
       record {
         few = λ k. absurd (omega arith);
-        many = λ k. restored (limit * (w + 1)) scratch part s1 room part-length e1 (limit * (w + 1)) (2 * limit * (w + 1)) s1 s3 (h .clean) (omega arith) (omega (arith, rooms)) (kept (2 * limit * (w + 1)) (bs .many l)) same-room refl e3;
+        many = λ k. there ∙ zeros-again (limit * (w + 1)) (2 * limit * (w + 1)) scratch part (h .clean) rooms (bs .many l ∙ ap (λ (s : List ℕ). replicate (2 * limit * (w + 1)) 0 ++ drop (2 * limit * (w + 1)) s) before);
       },
     )
 
     -- the woven terms are those of the step, and what was made is cleared
-    pub woven-fits : made ≤ 2 * limit → (r : Place) (s2 s3 : List ℕ)
-        → Woven (record { n = n; w = w; k = g .k; v = g .v; l = g .l; end = end; made = made; limit = limit }) (decoded w n store) (decoded w made (drop (limit * (w + 1)) s1)) r (decoded w (r .out) s2) → Behind w limit (r .out) s1 s2
+    pub woven-fits : made ≤ 2 * limit → (r : Parts) (s2 s3 : List ℕ)
+        → Joined limit (gather (2 ^ g .l) (without (g .v) (decoded w n store) ++ decoded w made (drop (limit * (w + 1)) s1))) (decoded w n store) r (decoded w (r .out) s2) → Kept w limit (r .out) s1 s2
         → length s2 ≡ length s1 → s3 ≡ take (limit * (w + 1)) s2 ++ (replicate (limit * (w + 1) + made * (w + 1) - limit * (w + 1)) 0 ++ drop (limit * (w + 1) + made * (w + 1)) s2)
-        → Joined limit (gather (2 ^ g .l) (all-replaced (2 ^ g .l) (g .v) x y (decoded w n store))) (decoded w n store) (record { out = r .out; at = r .at }) (decoded w (r .out) s3) × Behind w limit (r .out) scratch s3
-    woven-fits l r s2 s3 gw bw l2 e3 =
+        → Joined limit (gather (2 ^ g .l) (all-replaced (2 ^ g .l) (g .v) x y (decoded w n store))) (decoded w n store) r (decoded w (r .out) s3) × Behind w limit (r .out) scratch s3
+    woven-fits l r s2 s3 gw kw l2 e3 =
+        let bw : Behind w limit (r .out) s1 s2 = kept-behind w limit (r .out) s1 s2 kw in
         let new : decoded w made (drop (limit * (w + 1)) s1) ≡ gather (2 ^ g .l) (all-replaced (2 ^ g .l) (g .v) x y (holding (g .v) (decoded w n store))) = rw (there, ← same) (gs .fits l) in
         let e : gather (2 ^ g .l) (without (g .v) (decoded w n store) ++ decoded w made (drop (limit * (w + 1)) s1)) ≡ gather (2 ^ g .l) (all-replaced (2 ^ g .l) (g .v) x y (decoded w n store)) =
         ap (λ (q : Polynomial). gather (2 ^ g .l) (without (g .v) (decoded w n store) ++ q)) new ∙ step-parts (2 ^ g .l) (g .v) x y (pow-pos (g .l)) (decoded w n store) in
@@ -147,6 +150,7 @@ module _ (store : List ℕ) (n w : ℕ) (g : Gate) (x y end : ℕ) (scratch : Li
             most = gw .most;
             fits = λ k. ap (λ (p : Polynomial). p ++ drop (r .at) (decoded w n store)) (front-stays (limit * (w + 1)) scratch part s1 room part-length e1 (r .out * (w + 1)) (made * (w + 1)) s2 s3 (h .clean) (mul-le-mul-right (w + 1) k) (omega (arith, made-room l)) (kept (made * (w + 1)) (bs .few l)) (l2 ∙ same-room) (bw .few k) e3 w (r .out) (mul-le-mul-right (w + 1) k)) ∙ gw .fits k ∙ e;
             full = λ k. rw e at (gw .full k);
+            none-left = gw .none-left;
           },
           record {
             few = λ k. back (r .out * (w + 1)) (mul-le-mul-right (w + 1) k) (bw .few k);

@@ -1,7 +1,7 @@
 -- A step in lent words: what it asks, and what it leaves.
 use mathlib.Core.Path.{_≡_}
 use mathlib.Core.Bool.{cond}
-use mathlib.Core.List.{List, [], _∷_, _++_}
+use mathlib.Core.List.{List, [], _∷_}
 use Prim.Native.Nat.{ℕ, _+_, _-_, _*_, _^_, _<_, _≤_}
 use lib.Dec.{eqb, leb}
 use lib.ListN.{length, drop, replicate}
@@ -12,7 +12,6 @@ use Rattle.rules.specs.Values.{bit}
 use Rattle.words.specs.Stored.{decoded}
 use Rattle.weave.specs.Seeking.{Last}
 use Rattle.merge.specs.declared.streams.Gate.{Gate}
-use Rattle.poly.specs.declared.step.Parts.{Parts}
 
 -- the terms that hold v
 unfoldable pub holding : ℕ → Polynomial → Polynomial
@@ -46,13 +45,6 @@ pub record Prepared (store : List ℕ) (n w : ℕ) (g : Gate) (x y end : ℕ) (s
   pub scratch-room : 4 * limit * (w + 1) ≤ length scratch
   pub behind : drop (n * (w + 1)) store ≡ replicate (length store - n * (w + 1)) 0
   pub clean : scratch ≡ replicate (length scratch) 0
-
--- the polynomial q is `out` with the terms of p from r .at on behind it; where `out` is more than `limit`, q is
-pub record Joined (limit : ℕ) (q p : Polynomial) (r : Parts) (out : Polynomial) : Type 0 where
-  pub within : r .at ≤ length p
-  pub most : r .out ≤ limit + 1
-  pub fits : r .out ≤ limit → out ++ drop (r .at) p ≡ q
-  pub full : limit < r .out → limit < length q
 
 -- what a step asks: a polynomial of `held` terms over the variables below 64 w, coefficients of l bits, in a store
 -- with room for `limit` terms and scratch for four times as many, with zeros wherever no term is; a gate that reads lower variables

@@ -8,9 +8,11 @@ ghost use lib.ListN.{length, take, drop, replicate};
 ghost use Rattle.rules.specs.Polynomial.{Below, gather};
 ghost use Rattle.rules.specs.Steps.{all-replaced};
 ghost use Rattle.words.specs.Stored.{decoded};
-ghost use Rattle.weave.specs.Written.{Gathered, Behind};
-ghost use Rattle.poly.specs.Stepping.{holding, Fit, Ready, Prepared, Joined, Stepped};
+ghost use Rattle.weave.specs.Written.{Gathered, Behind, Kept};
+ghost use Rattle.weave.specs.Weaving.{Joined};
+ghost use Rattle.poly.specs.Stepping.{holding, Fit, Ready, Prepared, Stepped};
 use merge::streams::Gate;
+use weave::weaving::Parts;
 use weave::weaving::Sizes;
 
 // What becomes of the terms that hold the gate's variable, where it is the product of the literals x and y, gathered into scratch:
@@ -28,21 +30,13 @@ fn replacements(
     requires { ⌜ Fit (now store) n w g x y × (limit * (w + 1) ≤ length (now scratch)) ⌝ }
     ensures { λ r. ⌜ Gathered limit (gather (2 ^ g .l) (all-replaced (2 ^ g .l) (g .v) x y (holding (g .v) (decoded w n (now (store .entry)))))) (decoded w r (now (scratch .exit))) r
         × ((e : ℕ) → g .v < e → Below (2 ^ e) (decoded w n (now (store .entry))) → r ≤ limit → Below (2 ^ e) (decoded w r (now (scratch .exit))))
-        × Behind w limit r (now (scratch .entry)) (now (scratch .exit)) ⌝ }
+        × Kept w limit r (now (scratch .entry)) (now (scratch .exit)) ⌝ }
 {
     let mut signs = [0u8; 16];
     let mut masks = [0u64; 64];
-    let mut at = [0usize; 4];
     gates::signs::sign_table(&mut signs, x, y);
     gates::masks::mask_table(&mut masks, w, g.v, g.x, g.y);
-    merge::merging::merge(store, n, w, g, &signs, &masks, &mut at, scratch, limit)
-}
-
-// A step in two parts: `out` terms in front of scratch, and behind them the store's from the `at`-th on. More than the limit in
-// scratch means that the step has more.
-pub struct Parts {
-    pub out: usize,
-    pub at: usize,
+    merge::merging::merge(store, n, w, g, &signs, &masks, scratch, limit)
 }
 
 // The step of gate g, the product of the literals x and y, in two parts. No term from `end` on holds the gate's variable. What
@@ -68,9 +62,10 @@ fn gathered(
     let most = 2 * limit;
     let made = replacements(store, end, w, g, x, y, &mut scratch[base..], most);
     if made > most {
-        words::stretches::clear(scratch, base, base + most * stride);
-        let out = limit + 1;
-        return Parts { out, at: n };
+        return Parts {
+            out: limit + 1,
+            at: n,
+        };
     }
     let sizes = Sizes {
         n,
@@ -84,8 +79,7 @@ fn gathered(
     };
     let p = weave::weaving::weave(store, sizes, scratch);
     words::stretches::clear(scratch, base, base + made * stride);
-    let out = p.out;
-    Parts { out, at: p.at }
+    p
 }
 
 fn larger(a: usize, b: usize) -> usize

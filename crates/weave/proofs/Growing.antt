@@ -7,7 +7,7 @@ use Prim.Native.Nat.{ℕ, _+_, _-_, _*_, _%_, _<_, _≤_}
 use native.Mathlib.Nat.{add-mul, one-mul, eq-or-lt-of-le, eq-zero-or-pos, mul-le-mul-right}
 use native.Mathlib.Omega.{arith}
 use lib.Dec.{leb}
-use lib.ListN.{length, length-append, take, drop}
+use lib.ListN.{length, length-append, length-replicate, take, drop, replicate}
 use lib.Seq.{drop-drop, drop-at, length-take-le}
 use borrow.Author.Tests.{leb-true, leb-false}
 use Rattle.rules.specs.Each.{sum}
@@ -16,7 +16,7 @@ use Rattle.words.specs.Numbers.{num}
 use Rattle.words.specs.Stored.{decoded}
 use Rattle.words.proofs.Stored.{decoded-more}
 use Rattle.weave.specs.Merging.{Lows, floor, Merging}
-use Rattle.weave.specs.Written.{Emitted, Behind}
+use Rattle.weave.specs.Written.{Emitted, Behind, Kept}
 use Rattle.weave.proofs.Fronts.{merge-front, merge-skip, merge-take}
 
 -- what was written, by what was found: no coefficient
@@ -77,6 +77,18 @@ behind-limit w limit r d d′ b = go (leb r limit) refl
         let h : r ≤ limit = leb-true r limit e in
         drop-later (r * (w + 1)) (limit * (w + 1)) d d′ (mul-le-mul-right (w + 1) h) (b .few h)
     go false e = b .many (leb-false r limit e)
+
+-- where all was written, what is behind it is kept
+pub kept-few : (w limit r : ℕ) (d d′ : List ℕ) → r ≤ limit → Behind w limit r d d′ → Kept w limit r d d′
+kept-few w limit r d d′ h b = record { few = b .few; many = λ k. absurd (omega arith) }
+
+-- where it was not, and what was written is cleared, zeros are there
+pub kept-many : (w limit r : ℕ) (d d₁ d′ : List ℕ) → limit < r → Behind w limit r d d₁ → d′ ≡ replicate (limit * (w + 1)) 0 ++ drop (limit * (w + 1)) d₁ → Kept w limit r d d′
+kept-many w limit r d d₁ d′ h b e = record { few = λ k. absurd (omega arith); many = λ k. rw e (ap (λ (x : List ℕ). replicate (limit * (w + 1)) 0 ++ x) (b .many h)) }
+
+-- in either case no word behind is changed
+pub kept-behind : (w limit r : ℕ) (d d′ : List ℕ) → Kept w limit r d d′ → Behind w limit r d d′
+kept-behind w limit r d d′ k = record { few = k .few; many = λ h. rw (k .many h) (drop-at (replicate (limit * (w + 1)) 0) (drop (limit * (w + 1)) d) (limit * (w + 1)) (length-replicate (limit * (w + 1)) 0)) }
 
 -- one write after another
 pub behind-after : (w limit o r : ℕ) (d₀ d d′ : List ℕ) → o ≤ limit → o ≤ r → Behind w limit o d₀ d → Behind w limit r d d′ → Behind w limit r d₀ d′

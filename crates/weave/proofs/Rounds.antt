@@ -1,19 +1,24 @@
 -- The turns, one after another.
 use mathlib.Core.Path.{_≡_, refl, ap, _∙_}
-use mathlib.Core.Bool.{true, false}
-use mathlib.Core.List.{List}
-use Prim.Native.Nat.{ℕ, _+_, _*_}
+use mathlib.Core.Bool.{Bool, true, false}
+use mathlib.Core.List.{List, _++_}
+use Prim.Native.Nat.{ℕ, _+_, _*_, _^_, _<_, _≤_}
+use native.Mathlib.Nat.{add-mul}
 use native.Mathlib.Omega.{arith}
+use lib.Dec.{leb}
 use lib.ListN.{length, drop}
+use borrow.Author.Tests.{leb-true, leb-false}
+use Rattle.rules.specs.Polynomial.{gather}
 use Rattle.words.specs.Stored.{decoded}
 use Rattle.words.proofs.Stored.{length-decoded}
 use Rattle.weave.specs.Seeking.{Stop}
-use Rattle.weave.specs.Weaving.{old-terms, new-terms, Task, State, Midway, Turned, Woven, going-on}
-use Rattle.weave.specs.Written.{Behind}
+use Rattle.weave.specs.Weaving.{without, old-terms, new-terms, Task, State, Midway, Turned, Joined, Ended, going-on}
+use Rattle.weave.specs.Written.{Behind, Kept}
+use Rattle.weave.specs.declared.weaving.Parts.{Parts}
 use Rattle.weave.specs.declared.weaving.Place.{Place}
 use Rattle.weave.specs.declared.weaving.Sizes.{Sizes}
-use Rattle.weave.proofs.Growing.{behind-none, behind-limit, behind-after}
-use Rattle.weave.proofs.States.{gone-on, still-going, state-begin, state-end}
+use Rattle.weave.proofs.Growing.{behind-none, behind-limit, behind-after, kept-few, kept-many}
+use Rattle.weave.proofs.States.{Over, gone-on, still-going, state-begin, state-end}
 
 -- what the turns from scratch₀ on have left
 pub record Underway (z : Sizes) (store scratch₀ scratch : List ℕ) (k : Place) : Type 0 where
@@ -66,7 +71,44 @@ module _ (z : Sizes) (store scratch₀ : List ℕ) (t : Task z store scratch₀)
     }
 
     -- after the last
-    pub underway-end : going-on z k ≡ false → Woven z (old-terms z store) (new-terms z scratch₀) k (decoded (z .w) (k .out) scratch)
-    underway-end g =
+    over : going-on z k ≡ false → Over z (old-terms z store) (new-terms z scratch₀) k (decoded (z .w) (k .out) scratch)
+    over g =
         let n : length (old-terms z store) ≡ z .n = length-decoded (z .w) (z .n) store in
         state-end z (old-terms z store) (new-terms z scratch₀) n (length-decoded (z .w) (z .made) (drop (z .limit * (z .w + 1)) scratch₀)) (t .falls) (t .new-falls) k (decoded (z .w) (k .out) scratch) (h .state) (omega (arith, t .end-in)) (λ i a b. t .free i a (omega arith)) (t .coefficients) (gone-on z k g)
+
+    -- room for `limit` terms
+    pub front-room : z .limit * (z .w + 1) ≤ length scratch
+    front-room = omega (arith, h .same-length, t .scratch-room, add-mul (z .limit) (z .made) (z .w + 1))
+
+    -- both parts
+    pub underway-end : (r : Parts) (scratch′ : List ℕ) → going-on z k ≡ false → Ended z k scratch r scratch′
+        → Joined (z .limit) (gather (2 ^ z .l) (without (z .v) (old-terms z store) ++ new-terms z scratch₀)) (old-terms z store) r (decoded (z .w) (r .out) scratch′) × Kept (z .w) (z .limit) (r .out) scratch₀ scratch′
+    underway-end r scratch′ g e = go (leb (k .out) (z .limit)) refl
+      where
+        go : (b : Bool) → leb (k .out) (z .limit) ≡ b
+            → Joined (z .limit) (gather (2 ^ z .l) (without (z .v) (old-terms z store) ++ new-terms z scratch₀)) (old-terms z store) r (decoded (z .w) (r .out) scratch′) × Kept (z .w) (z .limit) (r .out) scratch₀ scratch′
+        go true b =
+            let l : k .out ≤ z .limit = leb-true _ _ b in
+            rw (e .few l .0, e .few l .1) (
+              record {
+                within = over g .within;
+                most = omega arith;
+                fits = over g .fits;
+                full = λ d. absurd (omega arith);
+                none-left = λ d. absurd (omega arith);
+              },
+              kept-few (z .w) (z .limit) (k .out) scratch₀ scratch l (h .behind),
+            )
+        go false b =
+            let l : z .limit < k .out = leb-false _ _ b in
+            let m : k .out ≡ z .limit + 1 = omega (arith, h .state .most) in
+            rw (e .many l .0) (
+              record {
+                within = omega (arith, length-decoded (z .w) (z .n) store);
+                most = omega arith;
+                fits = λ d. absurd (omega arith);
+                full = λ d. over g .full l;
+                none-left = λ d. omega (arith, length-decoded (z .w) (z .n) store);
+              },
+              kept-many (z .w) (z .limit) (z .limit + 1) scratch₀ scratch scratch′ (omega arith) (rw m at (h .behind)) (e .many l .1),
+            )

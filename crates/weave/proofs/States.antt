@@ -16,7 +16,7 @@ use Rattle.rules.specs.Polynomial.{Polynomial, Below, Coefficients, Under, gath
 use Rattle.rules.proofs.Gathered.{under-of}
 use Rattle.weave.specs.Merging.{Merging, floor, two}
 use Rattle.weave.specs.Seeking.{Free, Stop}
-use Rattle.weave.specs.Weaving.{without, State, Woven, Head, Stretch, going-on, meeting}
+use Rattle.weave.specs.Weaving.{without, State, Head, Stretch, going-on, meeting}
 use Rattle.weave.specs.declared.weaving.Place.{Place}
 use Rattle.weave.specs.declared.weaving.Sizes.{Sizes}
 use Rattle.weave.proofs.Falling.{floor-above, coefficients-at, coefficients-take, coefficients-drop}
@@ -24,6 +24,12 @@ use Rattle.weave.proofs.Fronts.{under-append}
 use Rattle.weave.proofs.Growing.{Grown, Room, room-full, room-more}
 use Rattle.weave.proofs.Without.{without-end, without-held, without-some, without-free, without-rest, without-below}
 use Rattle.weave.proofs.Woven.{two-lows, first-low, second-low, weave-none, weave-stretch, weave-rest, head-sums, heads-sums}
+
+-- where the turns end: what is written, and behind it the terms of p that are left, are both lists gathered; or there is no room
+pub record Over (z : Sizes) (p q : Polynomial) (k : Place) (out : Polynomial) : Type 0 where
+  pub within : k .at ≤ length p
+  pub fits : k .out ≤ z .limit → out ++ drop (k .at) p ≡ gather (2 ^ z .l) (without (z .v) p ++ q)
+  pub full : z .limit < k .out → z .limit < length (gather (2 ^ z .l) (without (z .v) p ++ q))
 
 -- the next one that holds v, seen from a later term
 pub stop-later : (v : ℕ) (p : Polynomial) (at stop to : ℕ) → Stop v p at stop → at ≤ to → to ≤ stop → Stop v p to stop
@@ -226,10 +232,9 @@ module _ (z : Sizes) (p q : Polynomial) (np : length p ≡ z .n) (nq : length q 
 
   -- no new term and none that holds v is left, or there was no room
   pub state-end : (k : Place) (out : Polynomial) → State z p q k out → z .end ≤ length p → Free (z .v) p (z .end) (length p) → Coefficients (2 ^ z .l) p
-      → (z .limit < k .out) ⊎ ((z .end ≤ k .at) × (z .made ≤ k .used)) → Woven z p q k out
+      → (z .limit < k .out) ⊎ ((z .end ≤ k .at) × (z .made ≤ k .used)) → Over z p q k out
   state-end k out h e f c g = record {
     within = within;
-    most = h .most;
     fits = λ d. ⊎-elim (λ (l : z .limit < k .out). absurd (omega arith)) (λ l. rest d (l .0) (l .1)) g;
     full = h .full;
   }

@@ -4,7 +4,7 @@ use mathlib.Core.Bool.{Bool, false, cond, _&&_, _||_}
 use mathlib.Core.List.{List, [], _∷_, _++_}
 use Prim.Native.Nat.{ℕ, _+_, _-_, _*_, _^_, _<_, _≤_}
 use lib.Dec.{ltb, leb, eqb}
-use lib.ListN.{length, getD, drop}
+use lib.ListN.{length, getD, drop, replicate}
 use Rattle.rules.specs.Values.{bit}
 use Rattle.rules.specs.Polynomial.{Polynomial, Below, Coefficients, gather}
 use Rattle.words.specs.Stored.{decoded}
@@ -12,6 +12,7 @@ use Rattle.weave.specs.Merging.{Merging, two}
 use Rattle.weave.specs.Seeking.{Free, Stop, Above}
 use Rattle.weave.specs.Written.{Behind}
 use Rattle.weave.specs.declared.weaving.Sizes.{Sizes}
+use Rattle.weave.specs.declared.weaving.Parts.{Parts}
 use Rattle.weave.specs.declared.weaving.Place.{Place}
 
 -- the terms that do not hold v
@@ -51,12 +52,19 @@ pub record State (z : Sizes) (p q : Polynomial) (k : Place) (out : Polynomial) :
   pub going : k .out ≤ z .limit → Merging (2 ^ z .l) (2 ^ (64 * z .k)) 2 (without (z .v) p ++ q) out (two (without (z .v) (drop (k .at) p)) (drop (k .used) q))
   pub full : z .limit < k .out → z .limit < length (gather (2 ^ z .l) (without (z .v) p ++ q))
 
--- where the weave ended: what is written, and behind it the terms of p that are left, are both lists gathered; or there is no room
-pub record Woven (z : Sizes) (p q : Polynomial) (r : Place) (out : Polynomial) : Type 0 where
+-- the polynomial q in two parts: `out`, and behind it the terms of p from r .at on; or there is no room, since q has more than `limit`
+-- terms
+pub record Joined (limit : ℕ) (q p : Polynomial) (r : Parts) (out : Polynomial) : Type 0 where
   pub within : r .at ≤ length p
-  pub most : r .out ≤ z .limit + 1
-  pub fits : r .out ≤ z .limit → out ++ drop (r .at) p ≡ gather (2 ^ z .l) (without (z .v) p ++ q)
-  pub full : z .limit < r .out → z .limit < length (gather (2 ^ z .l) (without (z .v) p ++ q))
+  pub most : r .out ≤ limit + 1
+  pub fits : r .out ≤ limit → out ++ drop (r .at) p ≡ q
+  pub full : limit < r .out → limit < length q
+  pub none-left : limit < r .out → r .at ≡ length p
+
+-- what the place k of the weave becomes at its end: where there is no room, what is written is cleared
+pub record Ended (z : Sizes) (k : Place) (scratch : List ℕ) (r : Parts) (scratch′ : List ℕ) : Type 0 where
+  pub few : k .out ≤ z .limit → (r ≡ record { out = k .out; at = k .at }) × (scratch′ ≡ scratch)
+  pub many : z .limit < k .out → (r ≡ record { out = z .limit + 1; at = z .n }) × (scratch′ ≡ replicate (z .limit * (z .w + 1)) 0 ++ drop (z .limit * (z .w + 1)) scratch)
 
 -- there is room, and a new term or one that holds v is left
 unfoldable pub going-on : Sizes → Place → Bool

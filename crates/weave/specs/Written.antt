@@ -2,7 +2,7 @@
 use mathlib.Core.Path.{_≡_}
 use mathlib.Core.List.{List, _∷_, _++_}
 use Prim.Native.Nat.{ℕ, _+_, _*_, _<_, _≤_}
-use lib.ListN.{length, take, drop}
+use lib.ListN.{length, take, drop, replicate}
 use Rattle.rules.specs.Polynomial.{Polynomial}
 
 -- the term of c and the set's words was written as the o-th, unless c is 0 or there are `limit` already
@@ -15,6 +15,11 @@ pub record Emitted (w o limit c : ℕ) (set d d′ : List ℕ) (r : ℕ) : Type 
 pub record Behind (w limit r : ℕ) (d d′ : List ℕ) : Type 0 where
   pub few : r ≤ limit → drop (r * (w + 1)) d′ ≡ drop (r * (w + 1)) d
   pub many : limit < r → drop (limit * (w + 1)) d′ ≡ drop (limit * (w + 1)) d
+
+-- the words behind the r terms written are as they were; where r is more than `limit`, zeros stand in the place of `limit` terms
+pub record Kept (w limit r : ℕ) (d d′ : List ℕ) : Type 0 where
+  pub few : r ≤ limit → drop (r * (w + 1)) d′ ≡ drop (r * (w + 1)) d
+  pub many : limit < r → d′ ≡ replicate (limit * (w + 1)) 0 ++ drop (limit * (w + 1)) d
 
 -- the polynomial q if it has at most `limit` terms; limit + 1 if not
 pub record Gathered (limit : ℕ) (q out : Polynomial) (r : ℕ) : Type 0 where

@@ -7,12 +7,14 @@ use words::coefficients::sum;
 use words::sets::Order;
 ghost use mathlib.Core.Path.{_≡_};
 ghost use mathlib.Core.Bool.{true};
+ghost use mathlib.Core.List.{_++_};
 ghost use Prim.Native.Nat.{_+_, _*_, _^_, _<_, _≤_};
 ghost use lib.ListN.{length};
+ghost use Rattle.rules.specs.Polynomial.{gather};
 ghost use Rattle.words.specs.Numbers.{words-at};
 ghost use Rattle.words.specs.Stored.{decoded};
-ghost use Rattle.weave.specs.Written.{Emitted, Behind};
-ghost use Rattle.weave.specs.Weaving.{Task, Midway, Head, Stretch, Turned, Woven, going-on, meeting, old-terms, new-terms};
+ghost use Rattle.weave.specs.Written.{Emitted, Kept};
+ghost use Rattle.weave.specs.Weaving.{Task, Midway, Head, Stretch, Turned, Joined, Ended, going-on, meeting, without, old-terms, new-terms};
 
 // What is woven: n terms of a store, none of which holds v from `end` on, and as many new ones as were made. A set has w words and
 // uses k; a coefficient has l bits.
@@ -33,6 +35,13 @@ pub struct Place {
     pub stop: usize,
     pub used: usize,
     pub out: usize,
+}
+
+// The result in two parts: `out` terms in front of scratch, and behind them the store's from the `at`-th on. More than the limit in
+// scratch means that there is no room.
+pub struct Parts {
+    pub out: usize,
+    pub at: usize,
 }
 
 // Writes the term of c and the set at word h as the o-th, unless c is 0. The number of terms then; limit + 1 without room.
@@ -158,12 +167,30 @@ fn goes_on(z: Sizes, p: Place) -> bool
     (p.out <= z.limit) & ((p.at < z.end) | (p.used < z.made))
 }
 
-// Both lists gathered into one in front of scratch, but for the store's last terms, which stay as they are: where that ended. At most
-// `limit` terms are written; `out` is limit + 1 if there are more.
-pub fn weave(store: &[u64], z: Sizes, scratch: &mut [u64]) -> Place
+// What the weave gives from its last place on: where there is no room, what it wrote is cleared.
+fn ended(z: Sizes, scratch: &mut [u64], p: Place) -> Parts
+    requires { ⌜ (z .w ≤ 16) × (z .limit * (z .w + 1) ≤ length (now scratch)) ⌝ }
+    ensures { λ r. ⌜ Ended z p (now (scratch .entry)) r (now (scratch .exit)) ⌝ }
+{
+    if p.out <= z.limit {
+        return Parts {
+            out: p.out,
+            at: p.at,
+        };
+    }
+    words::stretches::clear(scratch, 0, z.limit * (z.w + 1));
+    Parts {
+        out: z.limit + 1,
+        at: z.n,
+    }
+}
+
+// Both lists gathered into one, in two parts: in front of scratch, and the store's last terms, which stay as they are. At most `limit`
+// terms are written; `out` is limit + 1 if there are more.
+pub fn weave(store: &[u64], z: Sizes, scratch: &mut [u64]) -> Parts
     requires { ⌜ Task z (now store) (now scratch) ⌝ }
-    ensures { λ r. ⌜ Woven z (old-terms z (now (store .entry))) (new-terms z (now (scratch .entry))) r (decoded (z .w) (r .out) (now (scratch .exit)))
-        × Behind (z .w) (z .limit) (r .out) (now (scratch .entry)) (now (scratch .exit)) ⌝ }
+    ensures { λ r. ⌜ Joined (z .limit) (gather (2 ^ z .l) (without (z .v) (old-terms z (now (store .entry))) ++ new-terms z (now (scratch .entry)))) (old-terms z (now (store .entry))) r (decoded (z .w) (r .out) (now (scratch .exit)))
+        × Kept (z .w) (z .limit) (r .out) (now (scratch .entry)) (now (scratch .exit)) ⌝ }
 {
     let stop = holding(store, z.n, z.w, z.v, 0, z.end);
     let mut p = Place {
@@ -175,5 +202,5 @@ pub fn weave(store: &[u64], z: Sizes, scratch: &mut [u64]) -> Place
     while goes_on(z, p) {
         p = turn(store, z, scratch, p);
     }
-    p
+    ended(z, scratch, p)
 }

@@ -1,8 +1,8 @@
 -- One mask after the other.
 use mathlib.Core.Path.{_≡_, refl, _∙_}
-use Prim.Native.Nat.{_-_, _≤_}
+use Prim.Native.Nat.{_-_, _*_, _≤_}
 use native.Mathlib.Omega.{arith}
-use lib.ListN.{length}
+use lib.ListN.{length, drop}
 use Rattle.gates.proofs.Tables.{row-in, Making, making-more}
 use Rattle.gates.proofs.masks.mask_table.Statement.{statement}
 use Rattle.gates.proofs.masks.mask_table.Tie as tie
@@ -12,7 +12,7 @@ use Rattle.gates.proofs.masks.mask.Reads as mask-reads
 
 abbrev Inv-loop : tie.InvT-loop
 Inv-loop masks₀ w v x y j₀ masks j =
-    (j ≤ 4) × (length masks ≡ length masks₀) × Making w v x y j masks
+    (j ≤ 4) × (length masks ≡ length masks₀) × Making w v x y j masks × (drop (4 * w) masks ≡ drop (4 * w) masks₀)
 
 abbrev μ-loop : tie.MeasureT-loop
 μ-loop masks₀ w v x y j₀ masks j =
@@ -20,7 +20,7 @@ abbrev μ-loop : tie.MeasureT-loop
 
 loop-holds : tie.Need-loop-holds Inv-loop μ-loop
 loop-holds c =
-    (omega arith, refl, ((λ i l. absurd (omega arith)), λ i l d. c .before .pre .4 i d))
+    (omega arith, refl, ((λ i l. absurd (omega arith)), λ i l d. c .before .pre .4 i d), refl)
 
 mask-requires : tie.Need-mask-requires Inv-loop μ-loop
 mask-requires c κs =
@@ -40,7 +40,7 @@ loop-again c =
     let a = c .before .before .before .before .before .before .before .args in
     let l = c .before .before .before .before .before .loop in
     let m = c .before .before .mask in
-    (omega arith, m .kept .0 ∙ l .inv .1, making-more (a .w) (a .v) (a .x) (a .y) (l .j) (l .masks) (m .last .0) (l .inv .2) (m .ensures))
+    (omega arith, m .kept .0 ∙ l .inv .1, making-more (a .w) (a .v) (a .x) (a .y) (l .j) (l .masks) (m .last .0) (l .inv .2) (m .ensures), m .ensures .behind (4 * a .w) (row-in (l .j) 4 (a .w) (4 * a .w) (omega arith) (omega arith)) ∙ l .inv .3)
 
 same-length : tie.Need-same-length Inv-loop μ-loop
 same-length c =
@@ -51,7 +51,7 @@ returns c =
     let a = c .before .before .before .args in
     let l = c .before .loop in
     let e : l .j ≡ 4 = omega arith in
-    λ i d. l .inv .2 .0 i (omega arith)
+    ((λ i d. l .inv .2 .0 i (omega arith)), l .inv .3)
 
 pub mask-table-spec : {M : Type 1} → statement M
 mask-table-spec =

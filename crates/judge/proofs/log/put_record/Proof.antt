@@ -1,6 +1,6 @@
 -- `put_record` meets its contract: a walk of its MIR, by hand. The record is made in a local, the place of element k is computed, the borrow of the slice is opened, element k is taken out of the row and stored to, and the borrow is closed at the list with the record in it.
 -- Assumes nothing.
-use mathlib.Core.Path.{_≡_, refl, sym, ap, subst}
+use mathlib.Core.Path.{refl, sym, ap, subst}
 use Prim.Native.Nat.{ℕ, _<_, _*_, _^_}
 use native.Mathlib.Omega.{arith}
 use mathlib.Core.List.{[], _∷_, List}

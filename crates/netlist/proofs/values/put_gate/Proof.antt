@@ -1,5 +1,4 @@
 -- `put_gate` reads variables below the gate's own, whose values are 0 or 1, so the product is too. Assumes nothing.
-use Prim.Native.Nat.{_≤_}
 use native.Mathlib.Omega.{arith}
 use borrow.Author.Needs.{needs}
 use Rattle.netlist.specs.Taken.{Bits}

@@ -43,26 +43,17 @@ replacements-requires c κs =
     let a = c .before .before .before .args in
     (front-fit (a .store .now) (a .n) (a .w) (a .g) (a .x) (a .y) (a .end) (a .scratch .now) (a .limit) (c .before .before .before .pre), part-room (a .store .now) (a .n) (a .w) (a .g) (a .x) (a .y) (a .end) (a .scratch .now) (a .limit) (c .before .before .before .pre))
 
-mul-clear : tie.Need-mul-clear
-mul-clear c = search needs
-
-add-clear : tie.Need-add-clear
-add-clear c = search needs
-
-clear-requires : tie.Need-clear-requires
-clear-requires c κs = search needs
-
-add-out : tie.Need-add-out
-add-out c = search needs
+add-t22 : tie.Need-add-t22
+add-t22 c = search needs
 
 same-length : tie.Need-same-length
 same-length c = search needs
 
 returns : tie.Need-returns
 returns c =
-    let a = c .before .before .before .before .before .before .before .before .before .before .before .args in
-    let m = c .before .before .before .before .before .before .before .replacements in
-    woven-full (a .store .now) (a .n) (a .w) (a .g) (a .x) (a .y) (a .end) (a .scratch .now) (a .limit) (c .before .before .before .before .before .before .before .before .before .before .before .pre) (m .result) (m .last .1 .1 .1 .1 .1 .1 .0) _ (m .kept .1 .1 .1 .1 .1 .1 .0) refl (m .ensures .0) (m .ensures .1) (m .ensures .2) (c .before .before .before .before .if1 .taken) (c .before .before .clear .last .0) (c .before .before .clear .ensures)
+    let a = c .before .before .before .before .before .before .before .args in
+    let m = c .before .before .before .replacements in
+    woven-full (a .store .now) (a .n) (a .w) (a .g) (a .x) (a .y) (a .end) (a .scratch .now) (a .limit) (c .before .before .before .before .before .before .before .pre) (m .result) (m .last .1 .1 .1 .1 .1 .1 .0) _ (m .kept .1 .1 .1 .1 .1 .1 .0) refl (m .ensures .0) (m .ensures .1) (m .ensures .2) (c .if1 .taken)
 
 weave-requires : tie.Need-weave-requires
 weave-requires c κs =
@@ -70,22 +61,22 @@ weave-requires c κs =
     let m = c .before .before .before .before .replacements in
     task (a .store .now) (a .n) (a .w) (a .g) (a .x) (a .y) (a .end) (a .scratch .now) (a .limit) (c .before .before .before .before .before .before .before .before .pre) (m .result) (m .last .1 .1 .1 .1 .1 .1 .0) _ (m .kept .1 .1 .1 .1 .1 .1 .0) refl (m .ensures .0) (m .ensures .1) (m .ensures .2) (c .before .if1 .left)
 
-mul-clear-2 : tie.Need-mul-clear-2
-mul-clear-2 c =
+mul-clear : tie.Need-mul-clear
+mul-clear c =
     let a = c .before .before .before .before .before .before .before .before .before .before .before .before .args in
     let m = c .before .before .before .before .before .before .before .before .replacements in
     let q = made-room (a .store .now) (a .n) (a .w) (a .g) (a .x) (a .y) (a .end) (a .scratch .now) (a .limit) (c .before .before .before .before .before .before .before .before .before .before .before .before .pre) (m .result) (m .last .1 .1 .1 .1 .1 .1 .0) _ (m .kept .1 .1 .1 .1 .1 .1 .0) refl (m .ensures .0) (m .ensures .1) (m .ensures .2) (c .before .before .before .before .before .if1 .left) in
     omega (arith, q, lent (c .before .before .before .before .before .before .before .before .before))
 
-add-clear-2 : tie.Need-add-clear-2
-add-clear-2 c =
+add-clear : tie.Need-add-clear
+add-clear c =
     let a = c .before .before .before .before .before .before .before .before .before .before .before .before .args in
     let m = c .before .before .before .before .before .before .before .before .replacements in
     let q = made-room (a .store .now) (a .n) (a .w) (a .g) (a .x) (a .y) (a .end) (a .scratch .now) (a .limit) (c .before .before .before .before .before .before .before .before .before .before .before .before .pre) (m .result) (m .last .1 .1 .1 .1 .1 .1 .0) _ (m .kept .1 .1 .1 .1 .1 .1 .0) refl (m .ensures .0) (m .ensures .1) (m .ensures .2) (c .before .before .before .before .before .if1 .left) in
     omega (arith, q, lent (c .before .before .before .before .before .before .before .before .before))
 
-clear-requires-2 : tie.Need-clear-requires-2
-clear-requires-2 c κs =
+clear-requires : tie.Need-clear-requires
+clear-requires c κs =
     let a = c .before .before .before .before .before .before .before .before .before .before .before .before .args in
     let m = c .before .before .before .before .before .before .before .before .replacements in
     (omega arith, rw (c .before .before .before .weave .kept .1 .1 .0, same-room (a .store .now) (a .n) (a .w) (a .g) (a .x) (a .y) (a .end) (a .scratch .now) (a .limit) (c .before .before .before .before .before .before .before .before .before .before .before .before .pre) (m .result) (m .last .1 .1 .1 .1 .1 .1 .0) _ (m .kept .1 .1 .1 .1 .1 .1 .0) refl (m .ensures .0) (m .ensures .1) (m .ensures .2)) (made-room (a .store .now) (a .n) (a .w) (a .g) (a .x) (a .y) (a .end) (a .scratch .now) (a .limit) (c .before .before .before .before .before .before .before .before .before .before .before .before .pre) (m .result) (m .last .1 .1 .1 .1 .1 .1 .0) _ (m .kept .1 .1 .1 .1 .1 .1 .0) refl (m .ensures .0) (m .ensures .1) (m .ensures .2) (c .before .before .before .before .before .if1 .left)))
@@ -98,7 +89,7 @@ returns-2 c =
     let a = c .before .before .before .before .before .before .before .before .before .before .before .before .before .before .before .args in
     let m = c .before .before .before .before .before .before .before .before .before .before .before .replacements in
     let e = c .before .before .before .before .before .before .weave in
-    woven-fits (a .store .now) (a .n) (a .w) (a .g) (a .x) (a .y) (a .end) (a .scratch .now) (a .limit) (c .before .before .before .before .before .before .before .before .before .before .before .before .before .before .before .pre) (m .result) (m .last .1 .1 .1 .1 .1 .1 .0) _ (m .kept .1 .1 .1 .1 .1 .1 .0) refl (m .ensures .0) (m .ensures .1) (m .ensures .2) (c .before .before .before .before .before .before .before .before .if1 .left) (e .result) (e .last .1 .1 .0) (c .before .before .clear2 .last .0) (e .ensures .0) (e .ensures .1) (e .kept .1 .1 .0) (c .before .before .clear2 .ensures)
+    woven-fits (a .store .now) (a .n) (a .w) (a .g) (a .x) (a .y) (a .end) (a .scratch .now) (a .limit) (c .before .before .before .before .before .before .before .before .before .before .before .before .before .before .before .pre) (m .result) (m .last .1 .1 .1 .1 .1 .1 .0) _ (m .kept .1 .1 .1 .1 .1 .1 .0) refl (m .ensures .0) (m .ensures .1) (m .ensures .2) (c .before .before .before .before .before .before .before .before .if1 .left) (e .result) (e .last .1 .1 .0) (c .before .before .clear .last .0) (e .ensures .0) (e .ensures .1) (e .kept .1 .1 .0) (c .before .before .clear .ensures)
 
 pub gathered-spec : {M : Type 1} → statement M
 gathered-spec =
@@ -112,15 +103,12 @@ gathered-spec =
     part-replacements-start
     part-replacements-end
     replacements-requires
-    mul-clear
-    add-clear
-    clear-requires
-    add-out
+    add-t22
     same-length
     returns
     weave-requires
-    mul-clear-2
-    add-clear-2
-    clear-requires-2
+    mul-clear
+    add-clear
+    clear-requires
     same-length-2
     returns-2)

@@ -1,7 +1,5 @@
 -- The tables are those of the gate, so its streams gather to what becomes of the terms that hold it.
 use mathlib.Core.Path.{_≡_}
-use mathlib.Core.List.{List}
-use Prim.Native.Nat.{ℕ}
 use native.Mathlib.Omega.{arith}
 use lib.ListN.{length}
 use Rattle.words.specs.Stored.{decoded}
@@ -36,31 +34,36 @@ slice-aggregate-merge c = search needs
 slice-aggregate-merge-2 : tie.Need-slice-aggregate-merge-2
 slice-aggregate-merge-2 c = search needs
 
-slice-aggregate-merge-3 : tie.Need-slice-aggregate-merge-3
-slice-aggregate-merge-3 c = search needs
-
 merge-requires : tie.Need-merge-requires
 merge-requires c κs =
-    let a = c .before .before .before .before .before .before .before .before .before .before .before .before .args in
-    let p = c .before .before .before .before .before .before .before .before .before .before .before .before .pre in
-    let s : List ℕ = c .before .before .before .before .before .before .before .before .sign-table .last .0 in
-    let m : List ℕ = c .before .before .before .before .before .mask-table .last .0 in
-    let ls : length (c .before .before .before .before .before .before .before .before .sign-table .last .0) ≡ 16 = c .before .before .before .before .before .before .before .before .sign-table .kept .0 in
-    let lm : length (c .before .before .before .before .before .mask-table .last .0) ≡ 64 = c .before .before .before .before .before .mask-table .kept .0 in
-    let h = held (a .store .now) (a .n) (a .w) (a .g) (a .x) (a .y) (p .0) (c .before .before .before .before .before .before .before .before .sign-table .last .0) (c .before .before .before .before .before .mask-table .last .0) ls (c .before .before .before .before .before .before .before .before .sign-table .ensures) (c .before .before .before .before .before .mask-table .ensures) in
-    let k = masks-short (a .store .now) (a .n) (a .w) (a .g) (a .x) (a .y) (p .0) (c .before .before .before .before .before .before .before .before .sign-table .last .0) (c .before .before .before .before .before .mask-table .last .0) ls (c .before .before .before .before .before .before .before .before .sign-table .ensures) (c .before .before .before .before .before .mask-table .ensures) (omega (arith, p .0 .narrow, lm)) in
-    let l = lows (a .store .now) (a .n) (a .w) (a .g) (a .x) (a .y) (p .0) (c .before .before .before .before .before .before .before .before .sign-table .last .0) (c .before .before .before .before .before .mask-table .last .0) ls (c .before .before .before .before .before .before .before .before .sign-table .ensures) (c .before .before .before .before .before .mask-table .ensures) in
-    (h, k, omega arith, omega arith, p .1, l)
+    let a = c .before .before .before .before .before .before .before .before .before .before .before .args in
+    let p = c .before .before .before .before .before .before .before .before .before .before .before .pre in
+    let t = c .before .before .before .before .before .before .before .sign-table in
+    let m = c .before .before .before .before .mask-table in
+    let ls : length (t .last .0) ≡ 16 = t .kept .0 in
+    let lm : length (m .last .0) ≡ 64 = m .kept .0 in (
+      held (a .store .now) (a .n) (a .w) (a .g) (a .x) (a .y) (p .0) (t .last .0) (m .last .0) ls (t .ensures) (m .ensures .0),
+      masks-short (a .store .now) (a .n) (a .w) (a .g) (a .x) (a .y) (p .0) (t .last .0) (m .last .0) ls (t .ensures) (m .ensures .0) (omega (arith, p .0 .narrow, lm)),
+      p .1,
+      lows (a .store .now) (a .n) (a .w) (a .g) (a .x) (a .y) (p .0) (t .last .0) (m .last .0) ls (t .ensures) (m .ensures .0),
+    )
 
 same-length : tie.Need-same-length
 same-length c = search needs
 
 returns : tie.Need-returns
 returns c =
-    let a = c .before .before .before .before .before .before .before .before .before .before .before .before .before .before .before .before .args in
-    let p = c .before .before .before .before .before .before .before .before .before .before .before .before .before .before .before .before .pre in
-    let ls : length (c .before .before .before .before .before .before .before .before .before .before .before .before .sign-table .last .0) ≡ 16 = c .before .before .before .before .before .before .before .before .before .before .before .before .sign-table .kept .0 in
-    (gathered (a .store .now) (a .n) (a .w) (a .g) (a .x) (a .y) (p .0) (c .before .before .before .before .before .before .before .before .before .before .before .before .sign-table .last .0) (c .before .before .before .before .before .before .before .before .before .mask-table .last .0) ls (c .before .before .before .before .before .before .before .before .before .before .before .before .sign-table .ensures) (c .before .before .before .before .before .before .before .before .before .mask-table .ensures) (a .limit) (c .before .before .before .merge .result) (decoded (a .w) (c .before .before .before .merge .result) (c .before .before .before .merge .last .1 .1 .1 .1 .1 .1 .1 .0)) (c .before .before .before .merge .ensures .0), falls (a .store .now) (a .n) (a .w) (a .g) (a .x) (a .y) (p .0) (c .before .before .before .before .before .before .before .before .before .before .before .before .sign-table .last .0) (c .before .before .before .before .before .before .before .before .before .mask-table .last .0) ls (c .before .before .before .before .before .before .before .before .before .before .before .before .sign-table .ensures) (c .before .before .before .before .before .before .before .before .before .mask-table .ensures) (a .limit) (c .before .before .before .merge .result) (decoded (a .w) (c .before .before .before .merge .result) (c .before .before .before .merge .last .1 .1 .1 .1 .1 .1 .1 .0)) (c .before .before .before .merge .ensures .0), c .before .before .before .merge .ensures .1)
+    let a = c .before .before .before .before .before .before .before .before .before .before .before .before .before .before .args in
+    let p = c .before .before .before .before .before .before .before .before .before .before .before .before .before .before .pre in
+    let t = c .before .before .before .before .before .before .before .before .before .before .sign-table in
+    let m = c .before .before .before .before .before .before .before .mask-table in
+    let r = c .before .before .merge in
+    let ls : length (t .last .0) ≡ 16 = t .kept .0 in
+    let out = decoded (a .w) (r .result) (r .last .1 .1 .1 .1 .1 .1 .0) in (
+      gathered (a .store .now) (a .n) (a .w) (a .g) (a .x) (a .y) (p .0) (t .last .0) (m .last .0) ls (t .ensures) (m .ensures .0) (a .limit) (r .result) out (r .ensures .0),
+      falls (a .store .now) (a .n) (a .w) (a .g) (a .x) (a .y) (p .0) (t .last .0) (m .last .0) ls (t .ensures) (m .ensures .0) (a .limit) (r .result) out (r .ensures .0),
+      r .ensures .1,
+    )
 
 pub replacements-spec : {M : Type 1} → statement M
 replacements-spec =
@@ -72,7 +75,6 @@ replacements-spec =
     mask-table-requires
     slice-aggregate-merge
     slice-aggregate-merge-2
-    slice-aggregate-merge-3
     merge-requires
     same-length
     returns)

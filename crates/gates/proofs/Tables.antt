@@ -3,7 +3,7 @@ use mathlib.Core.Path.{_≡_, refl, ap, _∙_}
 use mathlib.Core.List.{List, _∷_}
 use mathlib.Core.Logic.{_⊎_, inl, inr, ⊎-elim}
 use Prim.Native.Nat.{ℕ, zero, suc, _+_, _-_, _*_, _/_, _%_, _^_, _<_, _≤_}
-use native.Mathlib.Nat.{sub-zero, add-mul, one-mul, eq-or-lt-of-le, mul-le-mul-right}
+use native.Mathlib.Nat.{add-mul, one-mul, eq-or-lt-of-le, mul-le-mul-right}
 use native.Mathlib.Numerals.{add-one-le}
 use native.Mathlib.Omega.{arith}
 use lib.Bits.{bitXor, xor-lt}
@@ -12,6 +12,7 @@ use lib.Pow.{pow-lt}
 use lib.Seq.{getD-set-same, getD-set-other, drop-set-add, drop-set-lt, take-set-le}
 use Rattle.rules.specs.Netlist.{variable, inverted}
 use Rattle.words.specs.Numbers.{num, words-at}
+use Rattle.words.proofs.Encoded.{drop-zeros}
 use Rattle.words.proofs.Numbers.{turned-set}
 use Rattle.gates.specs.Signs.{factor, sign-product, sign, sign-at}
 use Rattle.gates.specs.Masks.{mask-of, mask-at, turned-by, Turned, Masked}
@@ -133,12 +134,6 @@ num-zeros : (n : ℕ) → num (replicate n 0) ≡ 0
 unfolding num
 num-zeros zero = refl
 num-zeros (suc n) = rw (num-zeros n)
-
--- zeros, but for the first
-pub drop-zeros : (i n : ℕ) → drop {A = ℕ} i (replicate n 0) ≡ replicate (n - i) 0
-drop-zeros zero n = rw (sub-zero)
-drop-zeros (suc i) zero = let e : 0 - suc i ≡ 0 = omega arith in rw e
-drop-zeros (suc i) (suc n) = let e : suc n - suc i ≡ n - i = omega arith in rw e (drop-zeros i n)
 
 -- zeros of zeros
 take-zeros : (i n : ℕ) → (k : ℕ) × (take {A = ℕ} i (replicate n 0) ≡ replicate k 0)

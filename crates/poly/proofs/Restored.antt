@@ -9,7 +9,7 @@ use lib.Seq.{take-at, drop-at, take-add, drop-drop, drop-append-le, length-take-
 use Rattle.words.specs.Stored.{decoded}
 use Rattle.words.proofs.Stored.{decoded-front}
 use Rattle.weave.proofs.Growing.{drop-later}
-use Rattle.gates.proofs.Tables.{drop-zeros}
+use Rattle.words.proofs.Encoded.{drop-zeros}
 
 -- the words from e to b
 drop-take : (e b : ℕ) (s : List ℕ) → e ≤ b → e ≤ length s → drop e (take b s) ≡ take (b - e) (drop e s)

@@ -28,7 +28,7 @@ use Rattle.gates.specs.declared.literals.Pair.{Pair}
 use Rattle.weave.specs.declared.weaving.Parts.{Parts}
 use Rattle.gates.proofs.Replacing.{step-alike, small-of}
 use Rattle.poly.proofs.Parts.{step-absent}
-use Rattle.gates.proofs.Tables.{drop-zeros}
+use Rattle.words.proofs.Encoded.{drop-zeros}
 
 -- the larger of two numbers
 pub larger-than : (a b u : ℕ) → u ≡ cond (ltb a b) b a → (a ≤ u) × (b ≤ u) × ((c : ℕ) → a ≤ c → b ≤ c → u ≤ c)

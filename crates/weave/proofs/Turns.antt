@@ -35,6 +35,14 @@ behind-stretch w limit o d run target target′ h l m e =
       many = λ k. absurd (omega arith);
     }
 
+-- a new term, from its words
+pub new-at : (z : Sizes) (scratch : List ℕ) (u : ℕ) → u < z .made → getD (new-terms z scratch) u (0, 0) ≡ term-at (z .w) scratch ((z .limit + u) * (z .w + 1))
+new-at z scratch u l =
+    let e : z .limit * (z .w + 1) + u * (z .w + 1) ≡ (z .limit + u) * (z .w + 1) = sym (add-mul (z .limit) u (z .w + 1)) in
+    let f : z .limit * (z .w + 1) + (u * (z .w + 1) + 1) ≡ (z .limit + u) * (z .w + 1) + 1 = omega arith in
+    decoded-at (z .w) (z .made) u (drop (z .limit * (z .w + 1)) scratch) l
+    ∙ rw (getD-drop (z .limit * (z .w + 1)) scratch (u * (z .w + 1)) 0, drop-drop (u * (z .w + 1) + 1) (z .limit * (z .w + 1)) scratch, e, f)
+
 module _ (z : Sizes) (store scratch : List ℕ) (t : Task z store scratch) where
   -- the words of a term of the store lie inside
   pub old-room : (i : ℕ) → i < z .n → i * (z .w + 1) + (z .w + 1) ≤ length store
@@ -63,21 +71,13 @@ module _ (z : Sizes) (store scratch : List ℕ) (t : Task z store scratch) where
   pub new-behind : (u : ℕ) → z .limit * (z .w + 1) ≤ (z .limit + u) * (z .w + 1)
   new-behind u = rw (add-mul (z .limit) u (z .w + 1)) (omega arith)
 
-  -- a new term, from its words
-  pub new-at : (u : ℕ) → u < z .made → getD (new-terms z scratch) u (0, 0) ≡ term-at (z .w) scratch ((z .limit + u) * (z .w + 1))
-  new-at u l =
-      let e : z .limit * (z .w + 1) + u * (z .w + 1) ≡ (z .limit + u) * (z .w + 1) = sym (add-mul (z .limit) u (z .w + 1)) in
-      let f : z .limit * (z .w + 1) + (u * (z .w + 1) + 1) ≡ (z .limit + u) * (z .w + 1) + 1 = omega arith in
-      decoded-at (z .w) (z .made) u (drop (z .limit * (z .w + 1)) scratch) l
-      ∙ rw (getD-drop (z .limit * (z .w + 1)) scratch (u * (z .w + 1)) 0, drop-drop (u * (z .w + 1) + 1) (z .limit * (z .w + 1)) scratch, e, f)
-
   -- its coefficient
   pub new-coefficient : (u : ℕ) → u < z .made → getD (new-terms z scratch) u (0, 0) .0 ≡ getD scratch ((z .limit + u) * (z .w + 1)) 0
-  new-coefficient u l = ap (λ (x : Term). x .0) (new-at u l)
+  new-coefficient u l = ap (λ (x : Term). x .0) (new-at z scratch u l)
 
   -- its set
   pub new-set : (u : ℕ) → u < z .made → getD (new-terms z scratch) u (0, 0) .1 ≡ num (words-at scratch ((z .limit + u) * (z .w + 1) + 1) (z .w))
-  new-set u l = ap (λ (x : Term). x .1) (new-at u l)
+  new-set u l = ap (λ (x : Term). x .1) (new-at z scratch u l)
 
   -- it uses k words
   pub new-low : (u : ℕ) → u < z .made → num (words-at scratch ((z .limit + u) * (z .w + 1) + 1) (z .w)) < 2 ^ (64 * z .k)

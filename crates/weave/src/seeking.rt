@@ -25,7 +25,7 @@ pub fn words_used(store: &[u64], n: usize, w: usize) -> usize
 }
 
 // Whether the first set has no variable above v.
-fn leads(store: &[u64], w: usize, v: usize) -> bool
+pub fn leads(store: &[u64], w: usize, v: usize) -> bool
     requires { ⌜ (w + 1 ≤ length (now store)) × (v < 64 * w) × (num (words-at (now store) 1 w) < 2 ^ (64 * w)) ⌝ }
     ensures { λ r. ⌜ r ≡ ltb (num (words-at (now (store .entry)) 1 w)) (2 ^ (v + 1)) ⌝ }
 {

@@ -2,7 +2,7 @@
 use mathlib.Core.Path.{_≡_, refl, ap, sym, _∙_}
 use mathlib.Core.List.{List, [], _∷_, _++_, append-assoc}
 use Prim.Native.Nat.{ℕ, zero, suc, _+_, _-_, _*_, _/_, _%_, _^_, _<_, _≤_}
-use native.Mathlib.Nat.{zero-mul, suc-mul, mul-assoc, mod-eq-of-lt, mod-one, div-one}
+use native.Mathlib.Nat.{sub-zero, zero-mul, suc-mul, mul-assoc, mod-eq-of-lt, mod-one, div-one}
 use native.Mathlib.Omega.{arith}
 use lib.ListN.{length, getD, take, drop, replicate, length-append, length-replicate, length-drop, take-append-drop}
 use lib.Pow.{high, low, shr-shr, mod-pow-add, pow-add}
@@ -83,6 +83,12 @@ words-decoded w (suc k) (x ∷ s) f h =
     let a : listed w (λ j. num (take w s) / 2 ^ (64 * j) % 2 ^ 64) ≡ take w s = listed-num w (take w s) (length-take-le w s (omega arith)) (words-from (x ∷ s) 1 w (omega arith) f) in
     let b : polynomial-words w (decoded w k (drop w s)) ≡ take (k * (w + 1)) (drop w s) = words-decoded w k (drop w s) (λ n. rw (getD-drop w s n 0) (f (suc (w + n)))) (simp length-drop (omega arith)) in
     rw (e, a, b, take-add w (k * (w + 1)) s)
+
+-- zeros, but for the first
+pub drop-zeros : (i n : ℕ) → drop {A = ℕ} i (replicate n 0) ≡ replicate (n - i) 0
+drop-zeros zero n = rw (sub-zero)
+drop-zeros (suc i) zero = let e : 0 - suc i ≡ 0 = omega arith in rw e
+drop-zeros (suc i) (suc n) = let e : suc n - suc i ≡ n - i = omega arith in rw e (drop-zeros i n)
 
 -- words with zeros behind them are as long as what was lent
 pub length-padded : (lent : ℕ) (words : List ℕ) → length words ≤ lent → length (padded lent words) ≡ lent

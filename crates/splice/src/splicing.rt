@@ -1,0 +1,59 @@
+// The new terms, which stand in scratch behind room for as many terms as the limit allows, put among the terms of a store.
+use crate::moving::move_back;
+use crate::moving::move_forward;
+use crate::moving::put;
+use crate::spots::place;
+use crate::spots::size;
+use weave::weaving::Sizes;
+ghost use mathlib.Core.Path.{_≡_};
+ghost use Prim.Native.Nat.{_+_, _-_, _*_};
+ghost use lib.ListN.{length, drop, replicate};
+ghost use Rattle.rules.specs.Judging.{polynomial-words, padded};
+ghost use Rattle.splice.specs.Splicing.{Splicing, Spliced, spliced};
+
+// Puts the new terms from the `used`-th on among the store's from the `src`-th on; both then begin at the `to`-th place: how many terms that
+// are. A stretch that goes further in front is moved before what stands behind it, and one that goes further behind after that: so
+// none is overwritten before it is moved.
+fn splice(store: &mut [u64], z: Sizes, scratch: &[u64], src: usize, used: usize, to: usize) -> usize
+    requires { ⌜ Splicing z (now store) (now scratch) src used to ⌝ }
+    ensures { λ r. ⌜ Spliced z (now (store .entry)) (now (scratch .entry)) src used to r (now (store .exit)) ⌝ }
+{
+    let stride = z.w + 1;
+    let left = z.n - src;
+    let here = src * stride;
+    let there = to * stride;
+    if used == z.made {
+        words::stretches::shift(store, here, there, left * stride);
+        return left;
+    }
+    let from = (z.limit + used) * stride;
+    let s = place(&store[here..], left, z, scratch, from);
+    let above = s.above;
+    let count = size(s.c);
+    move_forward(store, here, there, above * stride);
+    let rest = splice(
+        store,
+        z,
+        scratch,
+        src + above + s.met,
+        used + 1,
+        to + above + count,
+    );
+    move_back(store, here, there, above * stride);
+    put(scratch, from + 1, z.w, store, (to + above) * stride, s.c);
+    above + count + rest
+}
+
+// Puts the new terms among the store's from the `end`-th on, in front of the store: how many terms it then holds. What is left over is
+// cleared.
+pub fn splice_all(store: &mut [u64], z: Sizes, scratch: &[u64]) -> usize
+    requires { ⌜ Splicing z (now store) (now scratch) (z .end) 0 0 × (drop (z .n * (z .w + 1)) (now store) ≡ replicate (length (now store) - z .n * (z .w + 1)) 0) ⌝ }
+    ensures { λ r. ⌜ (r ≡ length (spliced z (now (store .entry)) (now (scratch .entry)) (z .end) 0))
+        × (now (store .exit) ≡ padded (length (now (store .entry))) (polynomial-words (z .w) (spliced z (now (store .entry)) (now (scratch .entry)) (z .end) 0))) ⌝ }
+{
+    let held = splice(store, z, scratch, z.end, 0, 0);
+    if held < z.n {
+        words::stretches::clear(store, held * (z.w + 1), z.n * (z.w + 1));
+    }
+    held
+}

@@ -1,0 +1,67 @@
+// Where a new term goes among terms whose sets fall.
+use weave::seeking::above;
+use weave::weaving::Sizes;
+use words::coefficients::sum;
+use words::sets::Order;
+ghost use mathlib.Core.Path.{_≡_};
+ghost use Prim.Native.Nat.{_+_, _*_, _^_, _<_, _≤_};
+ghost use lib.Dec.{eqb};
+ghost use lib.ListN.{length, getD};
+ghost use Rattle.words.specs.Numbers.{num, words-at};
+ghost use Rattle.words.specs.Stored.{decoded};
+ghost use Rattle.splice.specs.Splicing.{size, Spotting, Spotted};
+
+// Behind how many terms a new one goes; whether the one behind those has its set (1) or not (0); and the coefficient of both.
+pub struct Spot {
+    pub above: usize,
+    pub met: usize,
+    pub c: u64,
+}
+
+// How many terms a coefficient makes: none if it is 0.
+pub fn size(c: u64) -> usize
+    ensures { λ r. ⌜ r ≡ size c ⌝ }
+{
+    if c == 0 {
+        return 0;
+    }
+    1
+}
+
+// Whether the set at word i is the one at word h of `others`; both use k words of w.
+fn equal(words: &[u64], i: usize, others: &[u64], h: usize, w: usize, k: usize) -> bool
+    requires { ⌜ (i + w ≤ length (now words)) × (h + w ≤ length (now others)) × (k ≤ w)
+        × (num (words-at (now words) i w) < 2 ^ (64 * k)) × (num (words-at (now others) h w) < 2 ^ (64 * k)) ⌝ }
+    ensures { λ r. ⌜ r ≡ eqb (num (words-at (now (words .entry)) i w)) (num (words-at (now (others .entry)) h w)) ⌝ }
+{
+    match words::sets::compare_plain(words, i, others, h, k) {
+        Order::Same => true,
+        Order::More => false,
+        Order::Less => false,
+    }
+}
+
+// Where the new term at word `from` of scratch goes among n terms.
+pub fn place(terms: &[u64], n: usize, z: Sizes, scratch: &[u64], from: usize) -> Spot
+    requires { ⌜ Spotting (now terms) n z (now scratch) from ⌝ }
+    ensures { λ r. ⌜ Spotted (2 ^ z .l) (decoded (z .w) n (now (terms .entry))) (getD (now (scratch .entry)) from 0) (num (words-at (now (scratch .entry)) (from + 1) (z .w))) r ⌝ }
+{
+    let c = scratch[from];
+    let at = above(terms, n, z.w, z.k, 0, n, scratch, from + 1);
+    if at < n {
+        let word = at * (z.w + 1);
+        if equal(terms, word + 1, scratch, from + 1, z.w, z.k) {
+            let x = terms[word];
+            return Spot {
+                above: at,
+                met: 1,
+                c: sum(c, x, z.l),
+            };
+        }
+    }
+    Spot {
+        above: at,
+        met: 0,
+        c: c,
+    }
+}

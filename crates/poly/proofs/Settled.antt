@@ -3,7 +3,7 @@ use mathlib.Core.Path.{_≡_, refl, ap, sym, _∙_}
 use mathlib.Core.Bool.{Bool, true, false, cond}
 use mathlib.Core.List.{List, _++_, append-assoc}
 use Prim.Native.Nat.{ℕ, _+_, _-_, _*_, _/_, _^_, _<_, _≤_}
-use native.Mathlib.Nat.{sub-zero, add-mul}
+use native.Mathlib.Nat.{sub-zero, add-mul, mul-le-mul-right}
 use native.Mathlib.Omega.{arith}
 use lib.Dec.{ltb, leb}
 use lib.ListN.{length, getD, take, drop, replicate, length-append, length-drop, length-replicate, replicate-append-replicate}
@@ -18,17 +18,20 @@ use Rattle.rules.specs.Values.{bit}
 use Rattle.rules.proofs.Bits.{bit-out}
 use Rattle.words.specs.Stored.{decoded}
 use Rattle.words.proofs.Stored.{length-decoded, decoded-drop, stride-le}
-use Rattle.words.proofs.Encoded.{length-polynomial-words, polynomial-words-append, words-decoded, zeros-behind}
+use Rattle.words.proofs.Encoded.{drop-zeros, length-polynomial-words, polynomial-words-append, words-decoded, zeros-behind}
 use Rattle.gates.specs.Literals.{Apart}
 use Rattle.weave.specs.Seeking.{Last, Uses}
-use Rattle.weave.specs.Weaving.{Joined}
+use Rattle.weave.specs.Weaving.{old-terms, Joined}
+use Rattle.weave.specs.Written.{Kept}
+use Rattle.weave.proofs.Growing.{behind-limit, kept-behind}
 use Rattle.weave.proofs.Places.{set-below}
-use Rattle.poly.specs.Stepping.{Prepared, Ready, Stepped}
+use Rattle.poly.specs.Stepping.{Prepared, Both, Together, Ready, Stepped}
 use Rattle.gates.specs.declared.literals.Pair.{Pair}
 use Rattle.weave.specs.declared.weaving.Parts.{Parts}
+use Rattle.weave.specs.declared.weaving.Sizes.{Sizes}
 use Rattle.gates.proofs.Replacing.{step-alike, small-of}
 use Rattle.poly.proofs.Parts.{step-absent}
-use Rattle.words.proofs.Encoded.{drop-zeros}
+use Rattle.poly.proofs.Restored.{front-again}
 
 -- the larger of two numbers
 pub larger-than : (a b u : ℕ) → u ≡ cond (ltb a b) b a → (a ≤ u) × (b ≤ u) × ((c : ℕ) → a ≤ c → b ≤ c → u ≤ c)
@@ -130,65 +133,80 @@ settled n w at out U store scratch d e d′ h room both hs hu hn hl z hd hm k =
     let i = shift-room n w at out (length store) h room both in
     rw m (moved (out * (w + 1)) (at * (w + 1)) ((n - at) * (w + 1)) store scratch d e hs (i .0) (i .1) hd hm (n * (w + 1)) U d′ (rw m at hu) hn hl z (rw m at k))
 
--- zeros for the first E words, where zeros stand behind them
-pub zeros-front : (E : ℕ) (s s′ : List ℕ) → E ≤ length s → drop E s ≡ replicate (length s - E) 0 → s′ ≡ replicate E 0 ++ drop E s → s′ ≡ replicate (length s) 0
-zeros-front E s s′ h z e =
-    let q : E + (length s - E) ≡ length s = omega arith in
-    e ∙ rw (z, replicate-append-replicate {A = ℕ} E (length s - E) 0, q)
-
--- the first E words cleared, where zeros stand behind them
-pub zeros-all : (E : ℕ) (s s′ : List ℕ) → E ≤ length s → drop E s ≡ replicate (length s - E) 0 → s′ ≡ take 0 s ++ (replicate (E - 0) 0 ++ drop E s) → s′ ≡ replicate (length s) 0
-zeros-all E s s′ h z e = zeros-front E s s′ h z (rw (sub-zero E) at e)
-
--- what stands behind in a list that was zeros
-pub zeros-kept : (E : ℕ) (s s′ : List ℕ) → length s′ ≡ length s → s ≡ replicate (length s) 0 → drop E s′ ≡ drop E s → drop E s′ ≡ replicate (length s′ - E) 0
-zeros-kept E s s′ l z e = e ∙ ap (λ (x : List ℕ). drop E x) z ∙ drop-zeros E (length s) ∙ rw l
-
 -- what is left of the store's terms are some of them
-pub at-in : (w n limit : ℕ) (r : Parts) (q out : Polynomial) (store : List ℕ) → Joined limit q (decoded w n store) r out → r .at ≤ n
-at-in w n limit r q out store g = omega (arith, g .within, length-decoded w n store)
+pub at-in : (z : Sizes) (r : Parts) (q out : Polynomial) (store : List ℕ) → Joined (z .limit) q (old-terms z store) r out → r .at ≤ z .n
+at-in z r q out store g = omega (arith, g .within, length-decoded (z .w) (z .n) store)
 
-module _ (w n limit : ℕ) (r : Parts) (q : Polynomial) (store scratch made store′ scratch′ : List ℕ) (g : Joined limit q (decoded w n store) r (decoded w (r .out) made)) where
+-- scratch has room for `limit` terms
+pub scratch-front : (z : Sizes) (store scratch : List ℕ) → Both z store scratch → z .limit * (z .w + 1) ≤ length scratch
+scratch-front z store scratch b = omega (arith, b .task .scratch-room, add-mul (z .limit) (z .made) (z .w + 1))
+
+-- the weave left the scratch `made`, with r .out terms in front of it
+module _ (z : Sizes) (r : Parts) (q : Polynomial) (store scratch made store′ scratch′ : List ℕ) (b : Both z store scratch) (g : Joined (z .limit) q (old-terms z store) r (decoded (z .w) (r .out) made))
+    (t : Kept (z .w) (z .limit) (r .out) scratch made) (lm : length made ≡ length scratch) where
   -- the terms left are terms of the store
-  left-in : r .at ≤ n
-  left-in = at-in w n limit r q (decoded w (r .out) made) store g
+  left-in : r .at ≤ z .n
+  left-in = at-in z r q (decoded (z .w) (r .out) made) store g
 
-  -- both parts are the step
-  counted : r .out ≤ limit → length q ≡ r .out + (n - r .at)
-  counted h = ap length (sym (g .fits h)) ∙ simp (length-append, length-drop) (omega (arith, length-decoded w n store, length-decoded w (r .out) made))
+  -- both parts are all terms
+  counted : r .out ≤ z .limit → length q ≡ r .out + (z .n - r .at)
+  counted h = ap length (sym (g .fits h)) ∙ simp (length-append, length-drop) (omega (arith, length-decoded (z .w) (z .n) store, length-decoded (z .w) (r .out) made))
 
-  -- the step fits: its terms are in the store
-  pub stepped-fits : r .out + (n - r .at) ≤ limit → ((i : ℕ) → getD made i 0 < 2 ^ 64) → ((i : ℕ) → getD store i 0 < 2 ^ 64) → r .out * (w + 1) ≤ length made → n * (w + 1) ≤ length store
-      → store′ ≡ take (r .out * (w + 1)) made ++ (take ((n - r .at) * (w + 1)) (drop (r .at * (w + 1)) store) ++ replicate (length store - (r .out + (n - r .at)) * (w + 1)) 0)
-      → scratch′ ≡ replicate (length scratch) 0 → Stepped w limit q store scratch (r .out + (n - r .at)) store′ scratch′
+  -- the terms in front of scratch lie inside
+  front-in : r .out ≤ z .limit → r .out * (z .w + 1) ≤ length made
+  front-in h = omega (arith, scratch-front z store scratch b, mul-le-mul-right (z .w + 1) h, lm)
+
+  -- what putting both parts together asks
+  pub to-settle : r .out + (z .n - r .at) ≤ z .limit
+      → (z .w ≤ 16) × (r .at ≤ z .n) × (z .n * (z .w + 1) ≤ length store) × ((r .out + (z .n - r .at)) * (z .w + 1) ≤ length store) × (r .out * (z .w + 1) ≤ length made)
+      × (drop (z .n * (z .w + 1)) store ≡ replicate (length store - z .n * (z .w + 1)) 0)
+  to-settle h = (
+    b .task .narrow,
+    left-in,
+    b .task .room,
+    stride-le (r .out + (z .n - r .at)) (z .limit) (z .w) (length store) h (b .store-room),
+    front-in (omega arith),
+    b .behind,
+  )
+
+  -- both parts fit: their terms are in the store
+  pub together-fits : r .out + (z .n - r .at) ≤ z .limit → ((i : ℕ) → getD made i 0 < 2 ^ 64) → ((i : ℕ) → getD store i 0 < 2 ^ 64)
+      → store′ ≡ take (r .out * (z .w + 1)) made ++ (take ((z .n - r .at) * (z .w + 1)) (drop (r .at * (z .w + 1)) store) ++ replicate (length store - (r .out + (z .n - r .at)) * (z .w + 1)) 0)
+      → scratch′ ≡ replicate (r .out * (z .w + 1)) 0 ++ drop (r .out * (z .w + 1)) made → Together z q store scratch (r .out + (z .n - r .at)) store′ scratch′
   unfolding padded
-  stepped-fits h f fs room rooms e z =
-      let few : r .out ≤ limit = omega arith in
-      let l : length q ≡ r .out + (n - r .at) = counted few in
-      let t : leb (length q) limit ≡ true = le-leb (length q) limit (omega arith) in
-      let tail-in : (n - r .at) * (w + 1) ≤ length (drop (r .at * (w + 1)) store) = simp length-drop (omega (arith, stride-parts (r .at) n w left-in)) in
-      let a : polynomial-words w (decoded w (r .out) made) ≡ take (r .out * (w + 1)) made = words-decoded w (r .out) made f room in
-      let b : polynomial-words w (drop (r .at) (decoded w n store)) ≡ take ((n - r .at) * (w + 1)) (drop (r .at * (w + 1)) store) =
-      ap (polynomial-words w) (decoded-drop w (r .at) n store left-in) ∙ words-decoded w (n - r .at) (drop (r .at * (w + 1)) store) (λ i. rw (getD-drop (r .at * (w + 1)) store i 0) (fs (r .at * (w + 1) + i))) tail-in in
-      let p : polynomial-words w q ≡ take (r .out * (w + 1)) made ++ take ((n - r .at) * (w + 1)) (drop (r .at * (w + 1)) store) =
-      ap (polynomial-words w) (sym (g .fits few)) ∙ polynomial-words-append w (decoded w (r .out) made) (drop (r .at) (decoded w n store)) ∙ rw (a, b) in
-      let k : length (polynomial-words w q) ≡ (r .out + (n - r .at)) * (w + 1) = length-polynomial-words w q ∙ rw l in
+  together-fits h f fs e c =
+      let few : r .out ≤ z .limit = omega arith in
+      let l : length q ≡ r .out + (z .n - r .at) = counted few in
+      let u : leb (length q) (z .limit) ≡ true = le-leb (length q) (z .limit) (omega arith) in
+      let tail-in : (z .n - r .at) * (z .w + 1) ≤ length (drop (r .at * (z .w + 1)) store) = simp length-drop (omega (arith, b .task .room, stride-parts (r .at) (z .n) (z .w) left-in)) in
+      let m : polynomial-words (z .w) (decoded (z .w) (r .out) made) ≡ take (r .out * (z .w + 1)) made = words-decoded (z .w) (r .out) made f (front-in few) in
+      let o : polynomial-words (z .w) (drop (r .at) (old-terms z store)) ≡ take ((z .n - r .at) * (z .w + 1)) (drop (r .at * (z .w + 1)) store) =
+      ap (polynomial-words (z .w)) (decoded-drop (z .w) (r .at) (z .n) store left-in) ∙ words-decoded (z .w) (z .n - r .at) (drop (r .at * (z .w + 1)) store) (λ i. rw (getD-drop (r .at * (z .w + 1)) store i 0) (fs (r .at * (z .w + 1) + i))) tail-in in
+      let p : polynomial-words (z .w) q ≡ take (r .out * (z .w + 1)) made ++ take ((z .n - r .at) * (z .w + 1)) (drop (r .at * (z .w + 1)) store) =
+      ap (polynomial-words (z .w)) (sym (g .fits few)) ∙ polynomial-words-append (z .w) (decoded (z .w) (r .out) made) (drop (r .at) (old-terms z store)) ∙ rw (m, o) in
+      let k : length (polynomial-words (z .w) q) ≡ (r .out + (z .n - r .at)) * (z .w + 1) = length-polynomial-words (z .w) q ∙ rw l in
       record {
-        counted = rw (t, l);
-        stored = rw (t, k, p, append-assoc (take (r .out * (w + 1)) made) (take ((n - r .at) * (w + 1)) (drop (r .at * (w + 1)) store)) (replicate (length store - (r .out + (n - r .at)) * (w + 1)) 0)) e;
-        cleared = z;
+        counted = rw (u, l);
+        stored = rw (u, k, p, append-assoc (take (r .out * (z .w + 1)) made) (take ((z .n - r .at) * (z .w + 1)) (drop (r .at * (z .w + 1)) store)) (replicate (length store - (r .out + (z .n - r .at)) * (z .w + 1)) 0)) e;
+        kept = front-again (r .out * (z .w + 1)) (z .limit * (z .w + 1)) scratch made scratch′ (mul-le-mul-right (z .w + 1) few) (b .clean) (t .few few) c;
       }
 
-  -- where both parts are more than the limit, so is the step
-  more : (t : Bool) → ltb limit (r .out) ≡ t → limit < r .out + (n - r .at) → limit < length q
-  more true d h = g .full (ltb-true limit (r .out) d)
-  more false d h = rw (counted (ltb-false limit (r .out) d)) h
+  -- where both parts are more than the limit, so are all terms
+  more : (u : Bool) → ltb (z .limit) (r .out) ≡ u → z .limit < r .out + (z .n - r .at) → z .limit < length q
+  more true d h = g .full (ltb-true (z .limit) (r .out) d)
+  more false d h = rw (counted (ltb-false (z .limit) (r .out) d)) h
 
-  -- it does not: the store is as it was
-  pub stepped-full : limit < r .out + (n - r .at) → store′ ≡ store → scratch′ ≡ replicate (length scratch) 0 → Stepped w limit q store scratch (limit + 1) store′ scratch′
-  stepped-full h e z =
-      let t : leb (length q) limit ≡ false = lt-leb (length q) limit (more (ltb limit (r .out)) refl h) in
-      record { counted = rw t refl; stored = rw t e; cleared = z }
+  -- they do not fit: store and scratch are as they were
+  pub together-full : z .limit < r .out + (z .n - r .at) → store′ ≡ store → scratch′ ≡ take 0 made ++ (replicate (z .limit * (z .w + 1) - 0) 0 ++ drop (z .limit * (z .w + 1)) made)
+      → Together z q store scratch (z .limit + 1) store′ scratch′
+  together-full h e c =
+      let u : leb (length q) (z .limit) ≡ false = lt-leb (length q) (z .limit) (more (ltb (z .limit) (r .out)) refl h) in
+      let k : drop (z .limit * (z .w + 1)) made ≡ drop (z .limit * (z .w + 1)) scratch = behind-limit (z .w) (z .limit) (r .out) scratch made (kept-behind (z .w) (z .limit) (r .out) scratch made t) in
+      record {
+        counted = rw u refl;
+        stored = rw u e;
+        kept = front-again (z .limit * (z .w + 1)) (z .limit * (z .w + 1)) scratch made scratch′ (omega arith) (b .clean) k (rw (sub-zero (z .limit * (z .w + 1))) at c);
+      }
 
 -- v does not occur: the step changes nothing
 pub stepped-same : (w l v x y limit held : ℕ) (store scratch : List ℕ) → Ready w l v x y limit held store scratch → (end : ℕ) → Last v (decoded w held store) end → end ≡ 0

@@ -1,27 +1,29 @@
--- The step woven: what becomes of the terms that hold v was made in scratch behind room for `limit` terms; it is woven into the
--- others, and cleared.
+-- The step woven: what becomes of the terms that hold v was made in scratch behind room for `limit` terms; it is put together with
+-- the others, and cleared.
 use mathlib.Core.Path.{_≡_, refl, ap, _∙_}
+use mathlib.Core.Bool.{false}
 use mathlib.Core.List.{List, _++_}
 use Prim.Native.Nat.{ℕ, _+_, _-_, _*_, _^_, _<_, _≤_}
 use native.Mathlib.Nat.{add-mul, mul-assoc, mul-le-mul-right}
 use native.Mathlib.Omega.{arith}
+use lib.Dec.{leb}
 use lib.ListN.{length, take, drop, replicate, length-append, length-drop, take-append-drop}
 use lib.Pow.{pow-pos}
 use lib.Seq.{take-all, length-take-le}
+use borrow.Author.Tests.{lt-leb}
 use Rattle.rules.specs.Polynomial.{Polynomial, Below, gather}
 use Rattle.rules.specs.Steps.{all-replaced}
 use Rattle.rules.proofs.Gathered.{gather-coefficients}
 use Rattle.words.specs.Stored.{decoded}
 use Rattle.words.proofs.Stored.{decoded-take, length-decoded, stride-le}
-use Rattle.weave.specs.Written.{Gathered, Behind, Kept}
-use Rattle.weave.specs.Weaving.{without, Task, Joined}
-use Rattle.weave.specs.declared.weaving.Parts.{Parts}
+use Rattle.weave.specs.Written.{Gathered, Kept}
+use Rattle.weave.specs.Weaving.{without}
+use Rattle.weave.specs.declared.weaving.Sizes.{Sizes}
 use Rattle.weave.proofs.Falling.{below-front, coefficients-take}
-use Rattle.weave.proofs.Growing.{kept-behind}
-use Rattle.poly.specs.Stepping.{holding, Fit, Prepared}
+use Rattle.poly.specs.Stepping.{holding, Fit, Prepared, Both, Together, Stepped}
 use Rattle.merge.specs.declared.streams.Gate.{Gate}
 use Rattle.poly.proofs.Parts.{holding-front, step-parts, step-more}
-use Rattle.poly.proofs.Restored.{zeros-again, part-there, restored, front-stays}
+use Rattle.poly.proofs.Restored.{zeros-again, written, part-there, front-zeros, restored}
 
 module _ (store : List ℕ) (n w : ℕ) (g : Gate) (x y end : ℕ) (scratch : List ℕ) (limit : ℕ) (h : Prepared store n w g x y end scratch limit) where
   -- the terms up to the last that holds v are terms of the store
@@ -95,65 +97,56 @@ module _ (store : List ℕ) (n w : ℕ) (g : Gate) (x y end : ℕ) (scratch : Li
     pub made-room : made ≤ 2 * limit → limit * (w + 1) + made * (w + 1) ≤ length scratch
     made-room l = omega (arith, rooms, mul-le-mul-right (w + 1) l)
 
-    -- what the weave asks
-    pub task : made ≤ 2 * limit → Task (record { n = n; w = w; k = g .k; v = g .v; l = g .l; end = end; made = made; limit = limit }) store s1
-    task l = record {
-      room = h .fit .room;
-      scratch-room = rw (add-mul limit made (w + 1), same-room) (made-room l);
-      narrow = h .fit .narrow;
-      v-in = omega (arith, h .fit .v-in, h .fit .short);
-      short = h .fit .short;
-      l-high = h .fit .l-high;
-      end-in = end-in;
-      free = λ i a b. h .last .free i a (omega (arith, length-decoded w n store));
-      falls = h .fit .falls;
-      coefficients = h .fit .coefficients;
-      new-falls = rw there (fs (64 * g .k) (h .fit .v-in) (front-falls (2 ^ (64 * g .k)) (h .fit .falls)) l);
-      new-coefficients = rw (there, gs .fits l) (gather-coefficients (2 ^ g .l) (all-replaced (2 ^ g .l) (g .v) x y (holding (g .v) (decoded w end store))) (pow-pos (g .l)));
+    -- how many there are of the new terms and the others
+    abbrev sizes : Sizes
+    sizes = record { n = n; w = w; k = g .k; v = g .v; l = g .l; end = end; made = made; limit = limit }
+
+    -- what putting them together asks
+    pub both : made ≤ 2 * limit → Both sizes store s1
+    both l = record {
+      task = record {
+        room = h .fit .room;
+        scratch-room = rw (add-mul limit made (w + 1), same-room) (made-room l);
+        narrow = h .fit .narrow;
+        v-in = omega (arith, h .fit .v-in, h .fit .short);
+        short = h .fit .short;
+        l-high = h .fit .l-high;
+        end-in = end-in;
+        free = λ i a b. h .last .free i a (omega (arith, length-decoded w n store));
+        falls = h .fit .falls;
+        coefficients = h .fit .coefficients;
+        new-falls = rw there (fs (64 * g .k) (h .fit .v-in) (front-falls (2 ^ (64 * g .k)) (h .fit .falls)) l);
+        new-coefficients = rw (there, gs .fits l) (gather-coefficients (2 ^ g .l) (all-replaced (2 ^ g .l) (g .v) x y (holding (g .v) (decoded w end store))) (pow-pos (g .l)));
+      };
+      few = h .few;
+      store-room = h .store-room;
+      behind = h .behind;
+      clean = front-zeros (limit * (w + 1)) scratch part s1 room part-length e1 (h .clean);
     }
 
-    -- words behind what was made are as they were
-    kept : (d : ℕ) → drop d part ≡ drop d (take (length scratch - limit * (w + 1)) (drop (limit * (w + 1)) scratch)) → drop d part ≡ drop d (drop (limit * (w + 1)) scratch)
-    kept d e = e ∙ ap (λ (s : List ℕ). drop d s) before
+    -- too many were made: so are those of the step, and scratch is zeros again
+    pub step-full : 2 * limit < made → Stepped w limit (gather (2 ^ g .l) (all-replaced (2 ^ g .l) (g .v) x y (decoded w n store))) store scratch (limit + 1) store s1
+    step-full l =
+        let m : limit < length (gather (2 ^ g .l) (all-replaced (2 ^ g .l) (g .v) x y (decoded w n store))) = step-more (2 ^ g .l) (g .v) x y limit (decoded w n store) (pow-pos (g .l)) (omega (arith, length-decoded w n store, h .few)) (rw same at (gs .full l)) in
+        let u : leb (length (gather (2 ^ g .l) (all-replaced (2 ^ g .l) (g .v) x y (decoded w n store)))) limit ≡ false = lt-leb _ limit m in
+        let e : part ≡ drop (limit * (w + 1)) scratch = zeros-again (limit * (w + 1)) (2 * limit * (w + 1)) scratch part (h .clean) rooms (bs .many l ∙ ap (λ (s : List ℕ). replicate (2 * limit * (w + 1)) 0 ++ drop (2 * limit * (w + 1)) s) before) in
+        record {
+          counted = rw u refl;
+          stored = rw u refl;
+          cleared = written (limit * (w + 1)) scratch part s1 room part-length e1 ∙ ap (λ (s : List ℕ). take (limit * (w + 1)) scratch ++ s) e ∙ take-append-drop (limit * (w + 1)) scratch ∙ h .clean;
+        }
 
-    -- too many were made: so are those of the step, and scratch is as it was
-    pub woven-full : 2 * limit < made
-        → Joined limit (gather (2 ^ g .l) (all-replaced (2 ^ g .l) (g .v) x y (decoded w n store))) (decoded w n store) (record { out = limit + 1; at = n }) (decoded w (limit + 1) s1) × Behind w limit (limit + 1) scratch s1
-    woven-full l = (
-      record {
-        within = omega (arith, length-decoded w n store);
-        most = omega arith;
-        fits = λ k. absurd (omega arith);
-        full = λ k. step-more (2 ^ g .l) (g .v) x y limit (decoded w n store) (pow-pos (g .l)) (omega (arith, length-decoded w n store, h .few)) (rw same at (gs .full l));
-        none-left = λ k. omega (arith, length-decoded w n store);
-      },
-      record {
-        few = λ k. absurd (omega arith);
-        many = λ k. there ∙ zeros-again (limit * (w + 1)) (2 * limit * (w + 1)) scratch part (h .clean) rooms (bs .many l ∙ ap (λ (s : List ℕ). replicate (2 * limit * (w + 1)) 0 ++ drop (2 * limit * (w + 1)) s) before);
-      },
-    )
-
-    -- the woven terms are those of the step, and what was made is cleared
-    pub woven-fits : made ≤ 2 * limit → (r : Parts) (s2 s3 : List ℕ)
-        → Joined limit (gather (2 ^ g .l) (without (g .v) (decoded w n store) ++ decoded w made (drop (limit * (w + 1)) s1))) (decoded w n store) r (decoded w (r .out) s2) → Kept w limit (r .out) s1 s2
-        → length s2 ≡ length s1 → s3 ≡ take (limit * (w + 1)) s2 ++ (replicate (limit * (w + 1) + made * (w + 1) - limit * (w + 1)) 0 ++ drop (limit * (w + 1) + made * (w + 1)) s2)
-        → Joined limit (gather (2 ^ g .l) (all-replaced (2 ^ g .l) (g .v) x y (decoded w n store))) (decoded w n store) r (decoded w (r .out) s3) × Behind w limit (r .out) scratch s3
-    woven-fits l r s2 s3 gw kw l2 e3 =
-        let bw : Behind w limit (r .out) s1 s2 = kept-behind w limit (r .out) s1 s2 kw in
+    -- the terms put together are those of the step, and what was made is cleared
+    pub step-fits : made ≤ 2 * limit → (r : ℕ) (store′ s2 s3 : List ℕ)
+        → Together sizes (gather (2 ^ g .l) (without (g .v) (decoded w n store) ++ decoded w made (drop (limit * (w + 1)) s1))) store s1 r store′ s2
+        → s3 ≡ take (limit * (w + 1)) s2 ++ (replicate (limit * (w + 1) + made * (w + 1) - limit * (w + 1)) 0 ++ drop (limit * (w + 1) + made * (w + 1)) s2)
+        → Stepped w limit (gather (2 ^ g .l) (all-replaced (2 ^ g .l) (g .v) x y (decoded w n store))) store scratch r store′ s3
+    step-fits l r store′ s2 s3 t e3 =
         let new : decoded w made (drop (limit * (w + 1)) s1) ≡ gather (2 ^ g .l) (all-replaced (2 ^ g .l) (g .v) x y (holding (g .v) (decoded w n store))) = rw (there, ← same) (gs .fits l) in
         let e : gather (2 ^ g .l) (without (g .v) (decoded w n store) ++ decoded w made (drop (limit * (w + 1)) s1)) ≡ gather (2 ^ g .l) (all-replaced (2 ^ g .l) (g .v) x y (decoded w n store)) =
         ap (λ (q : Polynomial). gather (2 ^ g .l) (without (g .v) (decoded w n store) ++ q)) new ∙ step-parts (2 ^ g .l) (g .v) x y (pow-pos (g .l)) (decoded w n store) in
-        let back : (k : ℕ) → k ≤ limit * (w + 1) → drop k s2 ≡ drop k s1 → drop k s3 ≡ drop k scratch = λ k a f.
-        restored (limit * (w + 1)) scratch part s1 room part-length e1 k (made * (w + 1)) s2 s3 (h .clean) a (omega (arith, made-room l)) (kept (made * (w + 1)) (bs .few l)) (l2 ∙ same-room) f e3 in (
-          record {
-            within = gw .within;
-            most = gw .most;
-            fits = λ k. ap (λ (p : Polynomial). p ++ drop (r .at) (decoded w n store)) (front-stays (limit * (w + 1)) scratch part s1 room part-length e1 (r .out * (w + 1)) (made * (w + 1)) s2 s3 (h .clean) (mul-le-mul-right (w + 1) k) (omega (arith, made-room l)) (kept (made * (w + 1)) (bs .few l)) (l2 ∙ same-room) (bw .few k) e3 w (r .out) (mul-le-mul-right (w + 1) k)) ∙ gw .fits k ∙ e;
-            full = λ k. rw e at (gw .full k);
-            none-left = gw .none-left;
-          },
-          record {
-            few = λ k. back (r .out * (w + 1)) (mul-le-mul-right (w + 1) k) (bw .few k);
-            many = λ k. back (limit * (w + 1)) (omega arith) (bw .many k);
-          },
-        )
+        record {
+          counted = rw e at (t .counted);
+          stored = rw e at (t .stored);
+          cleared = restored (limit * (w + 1)) scratch part s1 room part-length e1 (made * (w + 1)) s3 (h .clean) (made-room l) (bs .few l ∙ ap (λ (s : List ℕ). drop (made * (w + 1)) s) before) (rw (t .kept) at e3);
+        }

@@ -4,13 +4,15 @@ use mathlib.Core.Bool.{cond}
 use mathlib.Core.List.{List, [], _∷_}
 use Prim.Native.Nat.{ℕ, _+_, _-_, _*_, _^_, _<_, _≤_}
 use lib.Dec.{eqb, leb}
-use lib.ListN.{length, drop, replicate}
+use lib.ListN.{length, take, drop, replicate}
 use Rattle.rules.specs.Judging.{polynomial-words, padded}
 use Rattle.rules.specs.Netlist.{variable}
 use Rattle.rules.specs.Polynomial.{Polynomial, Below, Coefficients}
 use Rattle.rules.specs.Values.{bit}
 use Rattle.words.specs.Stored.{decoded}
 use Rattle.weave.specs.Seeking.{Last}
+use Rattle.weave.specs.Weaving.{Task}
+use Rattle.weave.specs.declared.weaving.Sizes.{Sizes}
 use Rattle.merge.specs.declared.streams.Gate.{Gate}
 
 -- the terms that hold v
@@ -45,6 +47,22 @@ pub record Prepared (store : List ℕ) (n w : ℕ) (g : Gate) (x y end : ℕ) (s
   pub scratch-room : 4 * limit * (w + 1) ≤ length scratch
   pub behind : drop (n * (w + 1)) store ≡ replicate (length store - n * (w + 1)) 0
   pub clean : scratch ≡ replicate (length scratch) 0
+
+-- what putting both lists together asks: the terms of the store and new ones; room for `limit` terms in the store, zeros behind those it
+-- holds, and zeros in front of the new ones in scratch
+pub record Both (z : Sizes) (store scratch : List ℕ) : Type 0 where
+  pub task : Task z store scratch
+  pub few : z .n ≤ z .limit
+  pub store-room : z .limit * (z .w + 1) ≤ length store
+  pub behind : drop (z .n * (z .w + 1)) store ≡ replicate (length store - z .n * (z .w + 1)) 0
+  pub clean : take (z .limit * (z .w + 1)) scratch ≡ replicate (z .limit * (z .w + 1)) 0
+
+-- both lists, gathered to q, are in the store: their number of terms, and their words; or limit + 1 and the store as it was. Scratch is
+-- as it was.
+pub record Together (z : Sizes) (q : Polynomial) (store scratch : List ℕ) (r : ℕ) (store′ scratch′ : List ℕ) : Type 0 where
+  pub counted : r ≡ cond (leb (length q) (z .limit)) (length q) (z .limit + 1)
+  pub stored : store′ ≡ cond (leb (length q) (z .limit)) (padded (length store) (polynomial-words (z .w) q)) store
+  pub kept : scratch′ ≡ scratch
 
 -- what a step asks: a polynomial of `held` terms over the variables below 64 w, coefficients of l bits, in a store
 -- with room for `limit` terms and scratch for four times as many, with zeros wherever no term is; a gate that reads lower variables

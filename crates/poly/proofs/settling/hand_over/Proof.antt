@@ -6,11 +6,11 @@ use native.Mathlib.Omega.{arith}
 use lib.ListN.{length, take, drop, replicate}
 use Rattle.poly.proofs.Settled.{least-of, store-more, scratch-more}
 use borrow.Author.Needs.{needs}
-use Rattle.poly.proofs.step.hand_over.Statement.{statement}
-use Rattle.poly.proofs.step.hand_over.Tie as tie
-use Rattle.poly.proofs.step.hand_over.Reads as reads
-use Rattle.poly.proofs.step.hand_over.Lts as lts
-use Rattle.poly.proofs.step.least.Reads as least-reads
+use Rattle.poly.proofs.settling.hand_over.Statement.{statement}
+use Rattle.poly.proofs.settling.hand_over.Tie as tie
+use Rattle.poly.proofs.settling.hand_over.Reads as reads
+use Rattle.poly.proofs.settling.hand_over.Lts as lts
+use Rattle.poly.proofs.settling.least.Reads as least-reads
 use Rattle.words.proofs.stretches.clear.Reads as clear-reads
 use Rattle.words.proofs.stretches.copy.Reads as copy-reads
 

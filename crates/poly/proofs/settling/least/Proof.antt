@@ -1,9 +1,9 @@
 -- Each return is one of the two.
 use borrow.Author.Tests.{lt-ltb, le-ltb}
-use Rattle.poly.proofs.step.least.Statement.{statement}
-use Rattle.poly.proofs.step.least.Tie as tie
-use Rattle.poly.proofs.step.least.Reads as reads
-use Rattle.poly.proofs.step.least.Lts as lts
+use Rattle.poly.proofs.settling.least.Statement.{statement}
+use Rattle.poly.proofs.settling.least.Tie as tie
+use Rattle.poly.proofs.settling.least.Reads as reads
+use Rattle.poly.proofs.settling.least.Lts as lts
 
 returns : tie.Need-returns
 returns c =

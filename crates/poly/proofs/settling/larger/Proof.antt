@@ -1,9 +1,9 @@
 -- Each return is one of the two.
 use borrow.Author.Tests.{lt-ltb, le-ltb}
-use Rattle.poly.proofs.step.larger.Statement.{statement}
-use Rattle.poly.proofs.step.larger.Tie as tie
-use Rattle.poly.proofs.step.larger.Reads as reads
-use Rattle.poly.proofs.step.larger.Lts as lts
+use Rattle.poly.proofs.settling.larger.Statement.{statement}
+use Rattle.poly.proofs.settling.larger.Tie as tie
+use Rattle.poly.proofs.settling.larger.Reads as reads
+use Rattle.poly.proofs.settling.larger.Lts as lts
 
 returns : tie.Need-returns
 returns c =

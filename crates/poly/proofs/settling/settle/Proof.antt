@@ -3,14 +3,14 @@ use Prim.Native.Nat.{_+_, _-_, _*_}
 use native.Mathlib.Omega.{arith}
 use lib.ListN.{length}
 use Rattle.words.proofs.Stored.{stride-le}
-use Rattle.poly.proofs.Settled.{larger-than, shift-room, settled, zeros-front}
+use Rattle.poly.proofs.Settled.{larger-than, shift-room, settled}
 use borrow.Author.Needs.{needs}
-use Rattle.poly.proofs.step.settle.Statement.{statement}
-use Rattle.poly.proofs.step.settle.Tie as tie
-use Rattle.poly.proofs.step.settle.Reads as reads
-use Rattle.poly.proofs.step.settle.Lts as lts
-use Rattle.poly.proofs.step.hand_over.Reads as hand-over-reads
-use Rattle.poly.proofs.step.larger.Reads as larger-reads
+use Rattle.poly.proofs.settling.settle.Statement.{statement}
+use Rattle.poly.proofs.settling.settle.Tie as tie
+use Rattle.poly.proofs.settling.settle.Reads as reads
+use Rattle.poly.proofs.settling.settle.Lts as lts
+use Rattle.poly.proofs.settling.hand_over.Reads as hand-over-reads
+use Rattle.poly.proofs.settling.larger.Reads as larger-reads
 use Rattle.words.proofs.stretches.clear.Reads as clear-reads
 use Rattle.words.proofs.stretches.shift.Reads as shift-reads
 
@@ -79,7 +79,7 @@ returns c =
     let h = c .before .before .before .before .before .before .before .before .hand-over in
     let k = c .before .before .clear in
     let u = larger-than ((a .out + (a .n - a .at)) * (a .w + 1)) (a .n * (a .w + 1)) (m .result) (m .ensures) in
-    (settled (a .n) (a .w) (a .at) (a .out) (m .result) (a .store .now) (a .scratch .now) (t .last .0) (h .last .1 .0) (k .last .0) (p .1) (p .2) (p .3) (p .4) (u .0) (u .1) (u .2 (length (a .store .now)) (p .3) (p .2)) (p .5) (t .ensures) (h .ensures .0) (k .ensures), zeros-front (a .out * (a .w + 1)) (a .scratch .now) (h .last .0) (p .4) (p .6) (h .ensures .1))
+    (settled (a .n) (a .w) (a .at) (a .out) (m .result) (a .store .now) (a .scratch .now) (t .last .0) (h .last .1 .0) (k .last .0) (p .1) (p .2) (p .3) (p .4) (u .0) (u .1) (u .2 (length (a .store .now)) (p .3) (p .2)) (p .5) (t .ensures) (h .ensures .0) (k .ensures), h .ensures .1)
 
 pub settle-spec : {M : Type 1} → statement M
 settle-spec =

@@ -1,0 +1,82 @@
+// New terms and those of a store that do not hold a variable, put together in the store.
+ghost use mathlib.Core.Path.{_≡_};
+ghost use mathlib.Core.Bool.{cond};
+ghost use mathlib.Core.List.{_++_};
+ghost use Prim.Native.Nat.{_+_, _-_, _*_, _^_, _≤_};
+ghost use lib.Dec.{ltb};
+ghost use lib.ListN.{length, take, drop, replicate};
+ghost use Rattle.rules.specs.Polynomial.{gather};
+ghost use Rattle.weave.specs.Weaving.{without, old-terms, new-terms};
+ghost use Rattle.poly.specs.Stepping.{Both, Together};
+use weave::weaving::Sizes;
+
+fn larger(a: usize, b: usize) -> usize
+    ensures { λ r. ⌜ r ≡ cond (ltb a b) b a ⌝ }
+{
+    if a < b {
+        return b;
+    }
+    a
+}
+
+fn least(a: usize, b: usize) -> usize
+    ensures { λ r. ⌜ r ≡ cond (ltb a b) a b ⌝ }
+{
+    if a < b {
+        return a;
+    }
+    b
+}
+
+// Words moved at a time: 4 KiB on either side, which the nearest cache holds.
+const STRETCH: usize = 512;
+
+// Moves the first `end` words of scratch to the front of the store and leaves zeros there. A stretch is cleared while it is still
+// at hand.
+fn hand_over(scratch: &mut [u64], store: &mut [u64], end: usize)
+    requires { ⌜ (end ≤ length (now scratch)) × (end ≤ length (now store)) ⌝ }
+    ensures { λ r. ⌜ (now (store .exit) ≡ take end (now (scratch .entry)) ++ drop end (now (store .entry)))
+        × (now (scratch .exit) ≡ replicate end 0 ++ drop end (now (scratch .entry))) ⌝ }
+{
+    let mut done = 0;
+    while done < end {
+        let n = least(end - done, STRETCH);
+        let next = done + n;
+        words::stretches::copy(scratch, done, store, done, n);
+        words::stretches::clear(scratch, done, next);
+        done = next;
+    }
+}
+
+// Puts both parts of a weave together in the store, which held n terms: those from `at` on are shifted to where the `out` terms of
+// scratch end, and these are moved in front of them. It clears what is left over, and no word that was not used.
+fn settle(store: &mut [u64], n: usize, w: usize, scratch: &mut [u64], at: usize, out: usize)
+    requires { ⌜ (w ≤ 16) × (at ≤ n) × (n * (w + 1) ≤ length (now store)) × ((out + (n - at)) * (w + 1) ≤ length (now store)) × (out * (w + 1) ≤ length (now scratch))
+        × (drop (n * (w + 1)) (now store) ≡ replicate (length (now store) - n * (w + 1)) 0) ⌝ }
+    ensures { λ u. ⌜ (now (store .exit) ≡ take (out * (w + 1)) (now (scratch .entry)) ++ (take ((n - at) * (w + 1)) (drop (at * (w + 1)) (now (store .entry))) ++ replicate (length (now (store .entry)) - (out + (n - at)) * (w + 1)) 0))
+        × (now (scratch .exit) ≡ replicate (out * (w + 1)) 0 ++ drop (out * (w + 1)) (now (scratch .entry))) ⌝ }
+{
+    let stride = w + 1;
+    let front = out * stride;
+    let end = (out + (n - at)) * stride;
+    let most = larger(end, n * stride);
+    words::stretches::shift(store, at * stride, front, (n - at) * stride);
+    hand_over(scratch, store, front);
+    words::stretches::clear(store, end, most);
+}
+
+// Both lists gathered in the store: how many terms it then holds; limit + 1, and the store as it was, if there would be more than
+// `limit`. Scratch is as it was.
+pub fn woven(store: &mut [u64], z: Sizes, scratch: &mut [u64]) -> usize
+    requires { ⌜ Both z (now store) (now scratch) ⌝ }
+    ensures { λ r. ⌜ Together z (gather (2 ^ z .l) (without (z .v) (old-terms z (now (store .entry))) ++ new-terms z (now (scratch .entry)))) (now (store .entry)) (now (scratch .entry)) r (now (store .exit)) (now (scratch .exit)) ⌝ }
+{
+    let p = weave::weaving::weave(store, z, scratch);
+    let held = p.out + (z.n - p.at);
+    if held > z.limit {
+        words::stretches::clear(scratch, 0, z.limit * (z.w + 1));
+        return z.limit + 1;
+    }
+    settle(store, z.n, z.w, scratch, p.at, p.out);
+    held
+}

@@ -5,3 +5,4 @@ pub mod Tables
 pub mod Restored
 pub mod Woven
 pub mod Settled
+pub mod Placed

@@ -118,7 +118,8 @@ module _ (store : List ℕ) (n w : ℕ) (g : Gate) (x y end : ℕ) (scratch : Li
         new-falls = rw there (fs (64 * g .k) (h .fit .v-in) (front-falls (2 ^ (64 * g .k)) (h .fit .falls)) l);
         new-coefficients = rw (there, gs .fits l) (gather-coefficients (2 ^ g .l) (all-replaced (2 ^ g .l) (g .v) x y (holding (g .v) (decoded w end store))) (pow-pos (g .l)));
       };
-      few = h .few;
+      last = h .last;
+      some = h .some;
       store-room = h .store-room;
       behind = h .behind;
       clean = front-zeros (limit * (w + 1)) scratch part s1 room part-length e1 (h .clean);

@@ -1,17 +1,18 @@
 -- A step in lent words: what it asks, and what it leaves.
 use mathlib.Core.Path.{_≡_}
-use mathlib.Core.Bool.{cond}
+use mathlib.Core.Bool.{Bool, cond, _&&_}
 use mathlib.Core.List.{List, [], _∷_}
 use Prim.Native.Nat.{ℕ, _+_, _-_, _*_, _^_, _<_, _≤_}
-use lib.Dec.{eqb, leb}
+use lib.Dec.{eqb, leb, ltb}
 use lib.ListN.{length, take, drop, replicate}
 use Rattle.rules.specs.Judging.{polynomial-words, padded}
 use Rattle.rules.specs.Netlist.{variable}
 use Rattle.rules.specs.Polynomial.{Polynomial, Below, Coefficients}
 use Rattle.rules.specs.Values.{bit}
+use Rattle.words.specs.Numbers.{num, words-at}
 use Rattle.words.specs.Stored.{decoded}
 use Rattle.weave.specs.Seeking.{Last}
-use Rattle.weave.specs.Weaving.{Task}
+use Rattle.weave.specs.Weaving.{Task, old-terms}
 use Rattle.weave.specs.declared.weaving.Sizes.{Sizes}
 use Rattle.merge.specs.declared.streams.Gate.{Gate}
 
@@ -48,14 +49,19 @@ pub record Prepared (store : List ℕ) (n w : ℕ) (g : Gate) (x y end : ℕ) (s
   pub behind : drop (n * (w + 1)) store ≡ replicate (length store - n * (w + 1)) 0
   pub clean : scratch ≡ replicate (length scratch) 0
 
--- what putting both lists together asks: the terms of the store and new ones; room for `limit` terms in the store, zeros behind those it
--- holds, and zeros in front of the new ones in scratch
+-- what putting both lists together asks: the terms of the store, some of which hold v, but none from `end` on, and new ones; room for
+-- `limit` terms in the store, zeros behind those it holds, and zeros in front of the new ones in scratch
 pub record Both (z : Sizes) (store scratch : List ℕ) : Type 0 where
   pub task : Task z store scratch
-  pub few : z .n ≤ z .limit
+  pub last : Last (z .v) (old-terms z store) (z .end)
+  pub some : 0 < z .end
   pub store-room : z .limit * (z .w + 1) ≤ length store
   pub behind : drop (z .n * (z .w + 1)) store ≡ replicate (length store - z .n * (z .w + 1)) 0
   pub clean : take (z .limit * (z .w + 1)) scratch ≡ replicate (z .limit * (z .w + 1)) 0
+
+-- the new terms are put in place where they are few, there is room for all terms, and no variable is above v
+unfoldable pub in-place : Sizes → List ℕ → Bool
+in-place z store = leb (z .made) 16 && (leb (z .n - z .end + z .made) (z .limit) && ltb (num (words-at store 1 (z .w))) (2 ^ (z .v + 1)))
 
 -- both lists, gathered to q, are in the store: their number of terms, and their words; or limit + 1 and the store as it was. Scratch is
 -- as it was.

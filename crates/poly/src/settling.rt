@@ -2,12 +2,13 @@
 ghost use mathlib.Core.Path.{_≡_};
 ghost use mathlib.Core.Bool.{cond};
 ghost use mathlib.Core.List.{_++_};
-ghost use Prim.Native.Nat.{_+_, _-_, _*_, _^_, _≤_};
+ghost use Prim.Native.Nat.{_+_, _-_, _*_, _^_, _<_, _≤_};
 ghost use lib.Dec.{ltb};
 ghost use lib.ListN.{length, take, drop, replicate};
 ghost use Rattle.rules.specs.Polynomial.{gather};
+ghost use Rattle.words.specs.Numbers.{num, words-at};
 ghost use Rattle.weave.specs.Weaving.{without, old-terms, new-terms};
-ghost use Rattle.poly.specs.Stepping.{Both, Together};
+ghost use Rattle.poly.specs.Stepping.{Both, Together, in-place};
 use weave::weaving::Sizes;
 
 fn larger(a: usize, b: usize) -> usize
@@ -65,9 +66,9 @@ fn settle(store: &mut [u64], n: usize, w: usize, scratch: &mut [u64], at: usize,
     words::stretches::clear(store, end, most);
 }
 
-// Both lists gathered in the store: how many terms it then holds; limit + 1, and the store as it was, if there would be more than
+// Both lists gathered in the store by way of scratch: how many terms it then holds; limit + 1, and the store as it was, if there would be more than
 // `limit`. Scratch is as it was.
-pub fn woven(store: &mut [u64], z: Sizes, scratch: &mut [u64]) -> usize
+fn woven(store: &mut [u64], z: Sizes, scratch: &mut [u64]) -> usize
     requires { ⌜ Both z (now store) (now scratch) ⌝ }
     ensures { λ r. ⌜ Together z (gather (2 ^ z .l) (without (z .v) (old-terms z (now (store .entry))) ++ new-terms z (now (scratch .entry)))) (now (store .entry)) (now (scratch .entry)) r (now (store .exit)) (now (scratch .exit)) ⌝ }
 {
@@ -79,4 +80,31 @@ pub fn woven(store: &mut [u64], z: Sizes, scratch: &mut [u64]) -> usize
     }
     settle(store, z.n, z.w, scratch, p.at, p.out);
     held
+}
+
+// Whether the new terms are put in place: they are few, there is room for all terms, and no variable is above v, so that the terms that
+// hold it stand in front. Where they are many, or the limit is near, the way through scratch is taken.
+fn goes_in_place(store: &[u64], z: Sizes) -> bool
+    requires { ⌜ (z .n * (z .w + 1) ≤ length (now store)) × (0 < z .n) × (z .end ≤ z .n) × (z .w ≤ 16) × (z .v < 64 * z .w) × (num (words-at (now store) 1 (z .w)) < 2 ^ (64 * z .w)) ⌝ }
+    ensures { λ r. ⌜ r ≡ in-place z (now (store .entry)) ⌝ }
+{
+    if z.made > 16 {
+        return false;
+    }
+    if z.n - z.end + z.made > z.limit {
+        return false;
+    }
+    weave::seeking::leads(store, z.w, z.v)
+}
+
+// Both lists gathered in the store: how many terms it then holds; limit + 1, and the store as it was, if there would be more than
+// `limit`. Scratch is as it was.
+pub fn put_together(store: &mut [u64], z: Sizes, scratch: &mut [u64]) -> usize
+    requires { ⌜ Both z (now store) (now scratch) ⌝ }
+    ensures { λ r. ⌜ Together z (gather (2 ^ z .l) (without (z .v) (old-terms z (now (store .entry))) ++ new-terms z (now (scratch .entry)))) (now (store .entry)) (now (scratch .entry)) r (now (store .exit)) (now (scratch .exit)) ⌝ }
+{
+    if goes_in_place(store, z) {
+        return splice::splicing::splice_all(store, z, scratch);
+    }
+    woven(store, z, scratch)
 }

@@ -68,7 +68,7 @@ fn replace(
         made,
         limit,
     };
-    let held = crate::settling::woven(store, sizes, scratch);
+    let held = crate::settling::put_together(store, sizes, scratch);
     words::stretches::clear(scratch, base, base + made * stride);
     held
 }

@@ -43,7 +43,7 @@ length-keep zero s p = omega arith
 length-keep (suc c) s p = omega arith
 
 -- what is left of a falling list falls
-below-drop : (b i : ℕ) (p : Polynomial) → Below b p → Below b (drop i p)
+pub below-drop : (b i : ℕ) (p : Polynomial) → Below b p → Below b (drop i p)
 below-drop b zero p h = h
 below-drop b (suc i) [] h = tt
 below-drop b (suc i) (x ∷ p) h = weaken (x .1) b (drop i p) (omega (arith, h .0)) (below-drop (x .1) i p (h .1))

@@ -6,7 +6,7 @@ use crate::spots::place;
 use crate::spots::size;
 use weave::weaving::Sizes;
 ghost use mathlib.Core.Path.{_≡_};
-ghost use Prim.Native.Nat.{_+_, _-_, _*_};
+ghost use Prim.Native.Nat.{_+_, _-_, _*_, _≤_};
 ghost use lib.ListN.{length, drop, replicate};
 ghost use Rattle.rules.specs.Judging.{polynomial-words, padded};
 ghost use Rattle.splice.specs.Splicing.{Splicing, Spliced, spliced};
@@ -48,7 +48,7 @@ fn splice(store: &mut [u64], z: Sizes, scratch: &[u64], src: usize, used: usize,
 // cleared.
 pub fn splice_all(store: &mut [u64], z: Sizes, scratch: &[u64]) -> usize
     requires { ⌜ Splicing z (now store) (now scratch) (z .end) 0 0 × (drop (z .n * (z .w + 1)) (now store) ≡ replicate (length (now store) - z .n * (z .w + 1)) 0) ⌝ }
-    ensures { λ r. ⌜ (r ≡ length (spliced z (now (store .entry)) (now (scratch .entry)) (z .end) 0))
+    ensures { λ r. ⌜ (r ≡ length (spliced z (now (store .entry)) (now (scratch .entry)) (z .end) 0)) × (r ≤ z .limit)
         × (now (store .exit) ≡ padded (length (now (store .entry))) (polynomial-words (z .w) (spliced z (now (store .entry)) (now (scratch .entry)) (z .end) 0))) ⌝ }
 {
     let held = splice(store, z, scratch, z.end, 0, 0);

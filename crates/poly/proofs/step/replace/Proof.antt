@@ -9,7 +9,7 @@ use Rattle.poly.proofs.step.replace.Statement.{statement}
 use Rattle.poly.proofs.step.replace.Tie as tie
 use Rattle.poly.proofs.step.replace.Reads as reads
 use Rattle.poly.proofs.step.replace.Lts as lts
-use Rattle.poly.proofs.settling.woven.Reads as woven-reads
+use Rattle.poly.proofs.settling.put_together.Reads as put-together-reads
 use Rattle.poly.proofs.step.replacements.Reads as replacements-reads
 use Rattle.words.proofs.stretches.clear.Reads as clear-reads
 
@@ -58,8 +58,8 @@ returns c =
     let m = c .before .before .before .replacements in
     step-full (a .store .now) (a .n) (a .w) (a .g) (a .x) (a .y) (a .end) (a .scratch .now) (a .limit) (c .before .before .before .before .before .before .before .before .pre) (m .result) (m .last .1 .1 .1 .1 .1 .1 .0) _ (m .kept .1 .1 .1 .1 .1 .1 .0) refl (m .ensures .0) (m .ensures .1) (m .ensures .2) (c .if1 .taken)
 
-woven-requires : tie.Need-woven-requires
-woven-requires c κs =
+put-together-requires : tie.Need-put-together-requires
+put-together-requires c κs =
     let a = c .before .before .before .before .before .before .before .before .before .before .args in
     let m = c .before .before .before .before .before .replacements in
     both (a .store .now) (a .n) (a .w) (a .g) (a .x) (a .y) (a .end) (a .scratch .now) (a .limit) (c .before .before .before .before .before .before .before .before .before .before .pre) (m .result) (m .last .1 .1 .1 .1 .1 .1 .0) _ (m .kept .1 .1 .1 .1 .1 .1 .0) refl (m .ensures .0) (m .ensures .1) (m .ensures .2) (c .before .before .if1 .left)
@@ -82,7 +82,7 @@ clear-requires : tie.Need-clear-requires
 clear-requires c κs =
     let a = c .before .before .before .before .before .before .before .before .before .before .before .before .before .before .before .before .args in
     let m = c .before .before .before .before .before .before .before .before .before .before .before .replacements in
-    (omega arith, rw (c .before .before .before .before .before .woven .kept .1 .1 .0, same-room (a .store .now) (a .n) (a .w) (a .g) (a .x) (a .y) (a .end) (a .scratch .now) (a .limit) (c .before .before .before .before .before .before .before .before .before .before .before .before .before .before .before .before .pre) (m .result) (m .last .1 .1 .1 .1 .1 .1 .0) _ (m .kept .1 .1 .1 .1 .1 .1 .0) refl (m .ensures .0) (m .ensures .1) (m .ensures .2)) (made-room (a .store .now) (a .n) (a .w) (a .g) (a .x) (a .y) (a .end) (a .scratch .now) (a .limit) (c .before .before .before .before .before .before .before .before .before .before .before .before .before .before .before .before .pre) (m .result) (m .last .1 .1 .1 .1 .1 .1 .0) _ (m .kept .1 .1 .1 .1 .1 .1 .0) refl (m .ensures .0) (m .ensures .1) (m .ensures .2) (c .before .before .before .before .before .before .before .before .if1 .left)))
+    (omega arith, rw (c .before .before .before .before .before .put-together .kept .1 .1 .0, same-room (a .store .now) (a .n) (a .w) (a .g) (a .x) (a .y) (a .end) (a .scratch .now) (a .limit) (c .before .before .before .before .before .before .before .before .before .before .before .before .before .before .before .before .pre) (m .result) (m .last .1 .1 .1 .1 .1 .1 .0) _ (m .kept .1 .1 .1 .1 .1 .1 .0) refl (m .ensures .0) (m .ensures .1) (m .ensures .2)) (made-room (a .store .now) (a .n) (a .w) (a .g) (a .x) (a .y) (a .end) (a .scratch .now) (a .limit) (c .before .before .before .before .before .before .before .before .before .before .before .before .before .before .before .before .pre) (m .result) (m .last .1 .1 .1 .1 .1 .1 .0) _ (m .kept .1 .1 .1 .1 .1 .1 .0) refl (m .ensures .0) (m .ensures .1) (m .ensures .2) (c .before .before .before .before .before .before .before .before .if1 .left)))
 
 same-length-3 : tie.Need-same-length-3
 same-length-3 c = search needs
@@ -94,7 +94,7 @@ returns-2 : tie.Need-returns-2
 returns-2 c =
     let a = c .before .before .before .before .before .before .before .before .before .before .before .before .before .before .before .before .before .before .before .args in
     let m = c .before .before .before .before .before .before .before .before .before .before .before .before .before .before .replacements in
-    let t = c .before .before .before .before .before .before .before .before .woven in
+    let t = c .before .before .before .before .before .before .before .before .put-together in
     step-fits (a .store .now) (a .n) (a .w) (a .g) (a .x) (a .y) (a .end) (a .scratch .now) (a .limit) (c .before .before .before .before .before .before .before .before .before .before .before .before .before .before .before .before .before .before .before .pre) (m .result) (m .last .1 .1 .1 .1 .1 .1 .0) _ (m .kept .1 .1 .1 .1 .1 .1 .0) refl (m .ensures .0) (m .ensures .1) (m .ensures .2) (c .before .before .before .before .before .before .before .before .before .before .before .if1 .left) (t .result) (t .last .0) (t .last .1 .1 .0) (c .before .before .clear .last .0) (t .ensures) (c .before .before .clear .ensures)
 
 pub replace-spec : {M : Type 1} → statement M
@@ -113,7 +113,7 @@ replace-spec =
     same-length
     same-length-2
     returns
-    woven-requires
+    put-together-requires
     mul-clear
     add-clear
     clear-requires

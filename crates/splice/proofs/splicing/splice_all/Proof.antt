@@ -46,7 +46,7 @@ returns c =
     let a = c .before .before .before .before .before .before .before .before .before .before .before .before .before .before .before .args in
     let p = c .before .before .before .before .before .before .before .before .before .before .before .before .before .before .before .pre in
     let s = c .before .before .before .before .before .before .before .before .before .before .before .splice in
-    (s .ensures .counted, finished-fewer (a .z) (a .store .now) (a .scratch .now) (s .result) (s .last .0) (p .0) (p .1) (s .ensures) (s .kept .0) (c .before .before .clear .last .0) (c .before .before .before .before .before .before .before .if1 .taken) (c .before .before .clear .kept .0 ∙ s .kept .0) (λ i. c .slice-known3 .given i .fits) (c .before .before .clear .ensures))
+    (s .ensures .counted, omega (arith, s .ensures .most, p .0 .fits), finished-fewer (a .z) (a .store .now) (a .scratch .now) (s .result) (s .last .0) (p .0) (p .1) (s .ensures) (s .kept .0) (c .before .before .clear .last .0) (c .before .before .before .before .before .before .before .if1 .taken) (c .before .before .clear .kept .0 ∙ s .kept .0) (λ i. c .slice-known3 .given i .fits) (c .before .before .clear .ensures))
 
 same-length-2 : tie.Need-same-length-2
 same-length-2 c = search needs
@@ -56,7 +56,7 @@ returns-2 c =
     let a = c .before .before .before .before .before .before .before .before .args in
     let p = c .before .before .before .before .before .before .before .before .pre in
     let s = c .before .before .before .before .splice in
-    (s .ensures .counted, finished (a .z) (a .store .now) (a .scratch .now) (s .result) (s .last .0) (p .0) (p .1) (s .ensures) (s .kept .0) (c .if1 .left) (λ i. c .before .before .slice-known2 .given i .fits))
+    (s .ensures .counted, omega (arith, s .ensures .most, p .0 .fits), finished (a .z) (a .store .now) (a .scratch .now) (s .result) (s .last .0) (p .0) (p .1) (s .ensures) (s .kept .0) (c .if1 .left) (λ i. c .before .before .slice-known2 .given i .fits))
 
 pub splice-all-spec : {M : Type 1} → statement M
 splice-all-spec =

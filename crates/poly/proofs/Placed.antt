@@ -1,6 +1,6 @@
 -- The new terms put in place: the terms that hold v stand in front, and the rest are those that do not.
 use mathlib.Core.Path.{_≡_, refl, ap, sym, _∙_}
-use mathlib.Core.Bool.{Bool, true, false, _&&_, true≢false, false≢true}
+use mathlib.Core.Bool.{Bool, true, false, _&&_, false≢true}
 use mathlib.Core.List.{List, _++_}
 use mathlib.Core.Logic.{⊎-elim}
 use Prim.Native.Nat.{ℕ, zero, suc, _+_, _-_, _*_, _^_, _<_, _≤_}
@@ -15,8 +15,8 @@ use Rattle.rules.specs.Values.{bit}
 use Rattle.rules.proofs.Bits.{bit-cases}
 use Rattle.words.specs.Numbers.{num, words-at}
 use Rattle.words.specs.Stored.{decoded}
-use Rattle.words.proofs.Stored.{length-decoded, decoded-drop}
-use Rattle.weave.specs.Seeking.{Free, Last}
+use Rattle.words.proofs.Stored.{decoded-drop}
+use Rattle.weave.specs.Seeking.{Last}
 use Rattle.weave.specs.Weaving.{without, old-terms, new-terms}
 use Rattle.weave.specs.declared.weaving.Sizes.{Sizes}
 use Rattle.weave.proofs.Falling.{coefficients-drop}
@@ -97,7 +97,7 @@ module _ (z : Sizes) (store scratch : List ℕ) (h : Both z store scratch) (q : 
     some = omega (arith, h .task .v-in);
     short = h .task .short;
     l-high = h .task .l-high;
-    src-in = h .task .end-in;
+    first-in = h .task .end-in;
     used-in = omega arith;
     fits = omega (arith, q .fits);
     falls = rw rest-terms (below-drop (2 ^ (64 * z .k)) (z .end) (old-terms z store) (h .task .falls));

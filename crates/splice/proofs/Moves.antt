@@ -1,10 +1,9 @@
 -- A stretch of terms moved, what stands behind it put together, and a new term written between both.
 use mathlib.Core.Path.{_≡_, refl, ap, _∙_}
 use mathlib.Core.Bool.{Bool, true, false, cond}
-use mathlib.Core.List.{List, [], _∷_, _++_}
-use mathlib.Core.Logic.{⊎-elim}
+use mathlib.Core.List.{List, _∷_, _++_}
 use Prim.Native.Nat.{ℕ, zero, suc, _+_, _*_, _<_, _≤_}
-use native.Mathlib.Nat.{one-mul, zero-mul, add-zero, eq-or-lt-of-le}
+use native.Mathlib.Nat.{one-mul}
 use native.Mathlib.Omega.{arith}
 use lib.Dec.{ltb, eqb}
 use lib.ListN.{length, take, drop, length-drop}
@@ -17,18 +16,18 @@ use Rattle.splice.specs.Splicing.{size, moved}
 use Rattle.splice.proofs.Written.{Only, only-none, only-written, same-terms, moved-terms, put-term}
 
 -- u terms at word H moved to word T, if that is wanted
-module _ (w u H T e : ℕ) (d d′ : List ℕ) (h : H + u * (w + 1) ≤ length d) (k : T + u * (w + 1) ≤ length d) where
+module _ (w u H T : ℕ) (d d′ : List ℕ) (h : H + u * (w + 1) ≤ length d) (k : T + u * (w + 1) ≤ length d) where
   -- no other word is changed
-  pub move-only : (b : Bool) → (b ≡ true → T + u * (w + 1) ≤ e) → d′ ≡ cond b (moved H T (u * (w + 1)) d) d → Only T e d d′
-  move-only true g q = only-written T (u * (w + 1)) e (take (u * (w + 1)) (drop H d)) d d′ (length-take-le (u * (w + 1)) (drop H d) (simp length-drop (omega arith))) k (g refl) q
-  move-only false g q = rw q (only-none T e d)
+  pub move-only : (e : ℕ) (b : Bool) → (b ≡ true → T + u * (w + 1) ≤ e) → d′ ≡ cond b (moved H T (u * (w + 1)) d) d → Only T e d d′
+  move-only e true g q = only-written T (u * (w + 1)) e (take (u * (w + 1)) (drop H d)) d d′ (length-take-le (u * (w + 1)) (drop H d) (simp length-drop (omega arith))) k (g refl) q
+  move-only e false g q = rw q (only-none T e d)
 
   -- and the terms are there
   pub move-terms : d′ ≡ moved H T (u * (w + 1)) d → decoded w u (drop T d′) ≡ decoded w u (drop H d)
   move-terms q = moved-terms w u H T d d′ h k q
 
 -- a term of c and the set x written at word t, if it is one
-module _ (w t c : ℕ) (x r d d′ : List ℕ) (lx : length x ≡ w) (k : t + (w + 1) ≤ length d) (q : d′ ≡ cond (eqb c 0) d (take t d ++ ((c ∷ x) ++ drop (t + (w + 1)) d))) where
+module _ (w t c : ℕ) (x d d′ : List ℕ) (lx : length x ≡ w) (k : t + (w + 1) ≤ length d) (q : d′ ≡ cond (eqb c 0) d (take t d ++ ((c ∷ x) ++ drop (t + (w + 1)) d))) where
   -- no other word is changed
   pub put-only : Only t (t + size c * (w + 1)) d d′
   unfolding size
@@ -53,7 +52,7 @@ module _ (w u H T M C N R : ℕ) (s0 s1 s2 s3 s4 : List ℕ) (room : N ≤ lengt
     (e1 : s1 ≡ cond (ltb T H) (moved H T (u * (w + 1)) s0) s0) where
   -- what is moved first
   first-only : Only T (H + u * (w + 1)) s0 s1
-  first-only = move-only w u H T (H + u * (w + 1)) s0 s1 (omega arith) (omega arith) (ltb T H) (λ q. omega (arith, ltb-true T H q)) e1
+  first-only = move-only w u H T s0 s1 (omega arith) (omega arith) (H + u * (w + 1)) (ltb T H) (λ q. omega (arith, ltb-true T H q)) e1
 
   -- leaves what stands behind it
   pub rest-stays : drop (H + u * (w + 1) + M) s1 ≡ drop (H + u * (w + 1) + M) s0
@@ -64,7 +63,7 @@ module _ (w u H T M C N R : ℕ) (s0 s1 s2 s3 s4 : List ℕ) (room : N ≤ lengt
       (e3 : s3 ≡ cond (ltb H T) (moved H T (u * (w + 1)) s2) s2) (o4 : Only (T + u * (w + 1)) (T + u * (w + 1) + C) s3 s4) (l4 : length s4 ≡ length s0) where
     -- what is moved last
     last-only : Only T (T + u * (w + 1)) s2 s3
-    last-only = move-only w u H T (T + u * (w + 1)) s2 s3 (omega arith) (omega arith) (ltb H T) (λ q. omega arith) e3
+    last-only = move-only w u H T s2 s3 (omega arith) (omega arith) (T + u * (w + 1)) (ltb H T) (λ q. omega arith) e3
 
     -- the stretch is in its place before the term is written
     stretch : decoded w u (drop T s3) ≡ decoded w u (drop H s0)
@@ -75,7 +74,7 @@ module _ (w u H T M C N R : ℕ) (s0 s1 s2 s3 s4 : List ℕ) (room : N ≤ lengt
             let l : H < T = ltb-true H T a in
             let f : s3 ≡ moved H T (u * (w + 1)) s2 = rw a at e3 in
             let g : s1 ≡ s0 = rw (le-ltb T H (omega arith)) at e1 in
-            move-terms w u H T 0 s2 s3 (omega arith) (omega arith) f
+            move-terms w u H T s2 s3 (omega arith) (omega arith) f
             ∙ same-terms w u H (H + u * (w + 1)) s1 s2 refl (omega arith) (omega arith) (f2 (H + u * (w + 1)) (omega arith) (omega arith))
             ∙ ap (λ (z : List ℕ). decoded w u (drop H z)) g
         go false a true y =
@@ -84,7 +83,7 @@ module _ (w u H T M C N R : ℕ) (s0 s1 s2 s3 s4 : List ℕ) (room : N ≤ lengt
             let g : s1 ≡ moved H T (u * (w + 1)) s0 = rw y at e1 in
             ap (λ (z : List ℕ). decoded w u (drop T z)) f
             ∙ same-terms w u T (T + u * (w + 1)) s1 s2 refl (omega arith) (omega arith) (f2 (T + u * (w + 1)) (omega arith) (omega arith))
-            ∙ move-terms w u H T 0 s0 s1 (omega arith) (omega arith) g
+            ∙ move-terms w u H T s0 s1 (omega arith) (omega arith) g
         go false a false y =
             let q : T ≡ H = omega (arith, ltb-false H T a, ltb-false T H y) in
             let f : s3 ≡ s2 = rw a at e3 in

@@ -1,11 +1,10 @@
 -- A new term parts the terms that it goes among: those above it, itself, and the rest.
-use mathlib.Core.Path.{_≡_, refl, ap, sym, _∙_}
+use mathlib.Core.Path.{_≡_, refl, ap, _∙_}
 use mathlib.Core.Bool.{Bool, true, false}
 use mathlib.Core.List.{[], _∷_, _++_, append-assoc}
 use mathlib.Core.Logic.{⊎-elim}
 use Prim.Native.Nat.{ℕ, zero, suc, _+_, _%_, _<_, _≤_}
 use native.Mathlib.Nat.{eq-zero-or-pos, eq-or-lt-of-le, mod-lt}
-use native.Mathlib.Numerals.{add-one}
 use native.Mathlib.Omega.{arith}
 use lib.Dec.{ltb, eqb}
 use lib.ListN.{length, getD, take, drop, take-append-drop, drop-of-length-le}
@@ -14,9 +13,9 @@ use borrow.Author.Tests.{ltb-true, ltb-false, eqb-true, eqb-false}
 use Rattle.rules.specs.Each.{sum, joined}
 use Rattle.rules.specs.Polynomial.{Term, Polynomial, hit, coefficient-at, Below, Coefficients, Under, keep, gather}
 use Rattle.rules.proofs.Gathered.{under-of}
-use Rattle.weave.specs.Merging.{Lows, floor, Merging, two}
+use Rattle.weave.specs.Merging.{floor, Merging, two}
 use Rattle.weave.specs.Seeking.{Cut}
-use Rattle.weave.proofs.Falling.{below-front, below-back, floor-above, coefficients-at, coefficients-take}
+use Rattle.weave.proofs.Falling.{floor-above, coefficients-take}
 use Rattle.weave.proofs.Fronts.{under-append, merge-front, merge-skip, merge-take}
 use Rattle.weave.proofs.Woven.{two-lows, first-low, weave-none, weave-stretch, head-sums, heads-sums}
 use Rattle.splice.specs.Splicing.{Spotted}

@@ -7,10 +7,10 @@ use native.Mathlib.Nat.{add-mul, mul-le-mul-left, mul-le-mul-right}
 use native.Mathlib.Numerals.{add-one}
 use native.Mathlib.Omega.{arith}
 use lib.Dec.{ltb, eqb}
-use lib.ListN.{length, getD, take, drop, length-append, length-drop, length-take, drop-of-length-le}
+use lib.ListN.{length, getD, take, drop, length-drop, drop-of-length-le}
 use lib.Pow.{pow-pos}
 use lib.Seq.{drop-cons, drop-drop, length-take-le, take-all}
-use Rattle.rules.specs.Polynomial.{Polynomial, Below, Coefficients, keep, gather}
+use Rattle.rules.specs.Polynomial.{Polynomial, Below, Coefficients, gather}
 use Rattle.rules.proofs.Gathered.{under-of}
 use Rattle.rules.proofs.Terms.{weaken}
 use Rattle.words.specs.Numbers.{num, words-at}
@@ -19,9 +19,8 @@ use Rattle.words.proofs.Numbers.{length-words-at}
 use Rattle.words.proofs.Stored.{length-decoded, decoded-drop, decoded-take, stride-in, stride-le}
 use Rattle.weave.specs.Weaving.{new-terms}
 use Rattle.weave.specs.declared.weaving.Sizes.{Sizes}
-use Rattle.weave.proofs.Falling.{coefficients-at, coefficients-drop}
+use Rattle.weave.proofs.Falling.{coefficients-drop}
 use Rattle.weave.proofs.Fronts.{under-append}
-use Rattle.weave.proofs.Places.{set-below}
 use Rattle.weave.proofs.Turns.{new-at}
 use Rattle.weave.proofs.Woven.{weave-none, weave-rest}
 use Rattle.splice.specs.Splicing.{size, moved, Spotting, Spotted, Splicing, Spliced, terms-left, spliced}
@@ -36,12 +35,6 @@ unfolding size
 size-most zero = omega arith
 size-most (suc c) = omega arith
 
--- as many as it is kept as
-length-keep : (c s : ℕ) (p : Polynomial) → length (keep c s p) ≡ size c + length p
-unfolding size keep
-length-keep zero s p = omega arith
-length-keep (suc c) s p = omega arith
-
 -- what is left of a falling list falls
 pub below-drop : (b i : ℕ) (p : Polynomial) → Below b p → Below b (drop i p)
 below-drop b zero p h = h
@@ -52,28 +45,28 @@ below-drop b (suc i) (x ∷ p) h = weaken (x .1) b (drop i p) (omega (arith, h .
 gathered : (m hi : ℕ) (p : Polynomial) → 0 < m → Below hi p → Coefficients m p → gather m (p ++ []) ≡ p
 gathered m hi p hm f c = sym (weave-rest m hi (p ++ []) [] p hm (under-append hi p [] (under-of hi hi p (omega arith) f) tt) (weave-none m hi p [] f tt) c)
 
-module _ (z : Sizes) (store scratch : List ℕ) (src used to : ℕ) (h : Splicing z store scratch src used to) where
+module _ (z : Sizes) (store scratch : List ℕ) (first used to : ℕ) (h : Splicing z store scratch first used to) where
   -- how many terms are left
-  left-length : length (terms-left z store src) ≡ z .n - src
-  left-length = length-decoded (z .w) (z .n - src) (drop (src * (z .w + 1)) store)
+  left-length : length (terms-left z store first) ≡ z .n - first
+  left-length = length-decoded (z .w) (z .n - first) (drop (first * (z .w + 1)) store)
 
   -- how many new ones there are
   new-length : length (new-terms z scratch) ≡ z .made
   new-length = length-decoded (z .w) (z .made) (drop (z .limit * (z .w + 1)) scratch)
 
   -- the words of the terms left
-  left-words : src * (z .w + 1) + (z .n - src) * (z .w + 1) ≡ z .n * (z .w + 1)
+  left-words : first * (z .w + 1) + (z .n - first) * (z .w + 1) ≡ z .n * (z .w + 1)
   left-words =
-      let q : src + (z .n - src) ≡ z .n = omega (arith, h .src-in) in
-      sym (add-mul src (z .n - src) (z .w + 1)) ∙ ap (λ (k : ℕ). k * (z .w + 1)) q
+      let q : first + (z .n - first) ≡ z .n = omega (arith, h .first-in) in
+      sym (add-mul first (z .n - first) (z .w + 1)) ∙ ap (λ (k : ℕ). k * (z .w + 1)) q
 
   -- k terms from the `to`-th place on lie inside, if no more than are left of both
-  pub room-at : (k : ℕ) → k ≤ z .n - src + (z .made - used) → to * (z .w + 1) + k * (z .w + 1) ≤ length store
+  pub room-at : (k : ℕ) → k ≤ z .n - first + (z .made - used) → to * (z .w + 1) + k * (z .w + 1) ≤ length store
   room-at k l = rw (← add-mul to k (z .w + 1)) (stride-le (to + k) (z .limit) (z .w) (length store) (omega (arith, h .fits)) (h .store-room))
 
   -- k of the terms left lie inside
-  pub left-room : (k : ℕ) → k ≤ z .n - src → src * (z .w + 1) + k * (z .w + 1) ≤ length store
-  left-room k l = rw (← add-mul src k (z .w + 1)) (stride-le (src + k) (z .n) (z .w) (length store) (omega (arith, h .src-in)) (h .room))
+  pub left-room : (k : ℕ) → k ≤ z .n - first → first * (z .w + 1) + k * (z .w + 1) ≤ length store
+  left-room k l = rw (← add-mul first k (z .w + 1)) (stride-le (first + k) (z .n) (z .w) (length store) (omega (arith, h .first-in)) (h .room))
 
   -- so they are counted without a wrap
   pub left-count : z .n ≤ length store
@@ -81,29 +74,29 @@ module _ (z : Sizes) (store scratch : List ℕ) (src used to : ℕ) (h : Splicin
       let one : 1 ≤ z .w + 1 = omega arith in
       omega (arith, h .room, mul-le-mul-left (z .n) one)
 
-  pub to-count : to + (z .n - src) + (z .made - used) ≤ length store
+  pub to-count : to + (z .n - first) + (z .made - used) ≤ length store
   to-count =
       let one : 1 ≤ z .w + 1 = omega arith in
       omega (arith, h .store-room, h .fits, mul-le-mul-left (z .limit) one)
 
   -- the words from the first term left on
-  pub all-left : take (length store - src * (z .w + 1)) (drop (src * (z .w + 1)) store) ≡ drop (src * (z .w + 1)) store
-  all-left = take-all (length store - src * (z .w + 1)) (drop (src * (z .w + 1)) store) (simp length-drop (omega arith))
+  pub all-left : take (length store - first * (z .w + 1)) (drop (first * (z .w + 1)) store) ≡ drop (first * (z .w + 1)) store
+  all-left = take-all (length store - first * (z .w + 1)) (drop (first * (z .w + 1)) store) (simp length-drop (omega arith))
 
   -- no new term is left: what is left of the others is moved, and that is all
-  pub last-turn : (store′ : List ℕ) → used ≡ z .made → store′ ≡ moved (src * (z .w + 1)) (to * (z .w + 1)) ((z .n - src) * (z .w + 1)) store → Spliced z store scratch src used to (z .n - src) store′
+  pub last-turn : (store′ : List ℕ) → used ≡ z .made → store′ ≡ moved (first * (z .w + 1)) (to * (z .w + 1)) ((z .n - first) * (z .w + 1)) store → Spliced z store scratch first used to (z .n - first) store′
   last-turn store′ e m =
       let none : drop used (new-terms z scratch) ≡ [] = drop-of-length-le (new-terms z scratch) {i = used} (omega (arith, new-length)) in
-      let all : spliced z store scratch src used ≡ terms-left z store src = rw none (gathered (2 ^ z .l) (2 ^ (64 * z .k)) (terms-left z store src) (pow-pos (z .l)) (h .falls) (h .coefficients)) in
-      let only : Only (to * (z .w + 1)) (to * (z .w + 1) + (z .n - src) * (z .w + 1)) store store′ =
-      only-written (to * (z .w + 1)) ((z .n - src) * (z .w + 1)) (to * (z .w + 1) + (z .n - src) * (z .w + 1)) (take ((z .n - src) * (z .w + 1)) (drop (src * (z .w + 1)) store)) store store′
-      (length-take-le ((z .n - src) * (z .w + 1)) (drop (src * (z .w + 1)) store) (simp length-drop (omega (arith, left-words, h .room)))) (room-at (z .n - src) (omega arith)) (omega arith) m in
+      let all : spliced z store scratch first used ≡ terms-left z store first = rw none (gathered (2 ^ z .l) (2 ^ (64 * z .k)) (terms-left z store first) (pow-pos (z .l)) (h .falls) (h .coefficients)) in
+      let only : Only (to * (z .w + 1)) (to * (z .w + 1) + (z .n - first) * (z .w + 1)) store store′ =
+      only-written (to * (z .w + 1)) ((z .n - first) * (z .w + 1)) (to * (z .w + 1) + (z .n - first) * (z .w + 1)) (take ((z .n - first) * (z .w + 1)) (drop (first * (z .w + 1)) store)) store store′
+      (length-take-le ((z .n - first) * (z .w + 1)) (drop (first * (z .w + 1)) store) (simp length-drop (omega (arith, left-words, h .room)))) (room-at (z .n - first) (omega arith)) (omega arith) m in
       record {
         most = omega arith;
         counted = rw all (sym left-length);
-        there = moved-terms (z .w) (z .n - src) (src * (z .w + 1)) (to * (z .w + 1)) store store′ (left-room (z .n - src) (omega arith)) (room-at (z .n - src) (omega arith)) m ∙ sym all;
+        there = moved-terms (z .w) (z .n - first) (first * (z .w + 1)) (to * (z .w + 1)) store store′ (left-room (z .n - first) (omega arith)) (room-at (z .n - first) (omega arith)) m ∙ sym all;
         front = λ b x y. only .front b y;
-        behind = λ b x y. only .behind b (omega (arith, add-mul to (z .n - src) (z .w + 1)));
+        behind = λ b x y. only .behind b (omega (arith, add-mul to (z .n - first) (z .w + 1)));
       }
 
   -- a new term is left
@@ -131,7 +124,7 @@ module _ (z : Sizes) (store scratch : List ℕ) (src used to : ℕ) (h : Splicin
     new-some = rw new-left at (h .new-coefficients)
 
     -- what is asked to find its place
-    pub asks-place : Spotting (take (length store - src * (z .w + 1)) (drop (src * (z .w + 1)) store)) (z .n - src) z scratch ((z .limit + used) * (z .w + 1))
+    pub asks-place : Spotting (take (length store - first * (z .w + 1)) (drop (first * (z .w + 1)) store)) (z .n - first) z scratch ((z .limit + used) * (z .w + 1))
     asks-place = rw all-left (record {
       room = simp length-drop (omega (arith, left-words, h .room));
       narrow = h .narrow;
@@ -145,14 +138,14 @@ module _ (z : Sizes) (store scratch : List ℕ) (src used to : ℕ) (h : Splicin
       small = rw (new-at z scratch used l) at (new-some .1);
     })
 
-    module _ (r : Spot) (found : Spotted (2 ^ z .l) (decoded (z .w) (z .n - src) (take (length store - src * (z .w + 1)) (drop (src * (z .w + 1)) store))) (getD scratch ((z .limit + used) * (z .w + 1)) 0) (num (words-at scratch ((z .limit + used) * (z .w + 1) + 1) (z .w))) r) where
+    module _ (r : Spot) (found : Spotted (2 ^ z .l) (decoded (z .w) (z .n - first) (take (length store - first * (z .w + 1)) (drop (first * (z .w + 1)) store))) (getD scratch ((z .limit + used) * (z .w + 1)) 0) (num (words-at scratch ((z .limit + used) * (z .w + 1) + 1) (z .w))) r) where
       -- the new term parts the others
-      pub parted : Parted (2 ^ z .l) (terms-left z store src) (drop (suc used) (new-terms z scratch)) (num (words-at scratch ((z .limit + used) * (z .w + 1) + 1) (z .w))) r (spliced z store scratch src used)
+      pub parted : Parted (2 ^ z .l) (terms-left z store first) (drop (suc used) (new-terms z scratch)) (num (words-at scratch ((z .limit + used) * (z .w + 1) + 1) (z .w))) r (spliced z store scratch first used)
       parted = rw (new-left, new-at z scratch used l)
-          (spot-parts (2 ^ z .l) (2 ^ (64 * z .k)) (terms-left z store src) (drop (suc used) (new-terms z scratch)) (getD scratch ((z .limit + used) * (z .w + 1)) 0, num (words-at scratch ((z .limit + used) * (z .w + 1) + 1) (z .w))) r (pow-pos (z .l)) (h .falls) (h .coefficients) (rw (new-at z scratch used l) at new-low) (rw (new-at z scratch used l) at (new-some .1)) (rw all-left at found))
+          (spot-parts (2 ^ z .l) (2 ^ (64 * z .k)) (terms-left z store first) (drop (suc used) (new-terms z scratch)) (getD scratch ((z .limit + used) * (z .w + 1)) 0, num (words-at scratch ((z .limit + used) * (z .w + 1) + 1) (z .w))) r (pow-pos (z .l)) (h .falls) (h .coefficients) (rw (new-at z scratch used l) at new-low) (rw (new-at z scratch used l) at (new-some .1)) (rw all-left at found))
 
       -- no more terms stand above it than are left
-      pub above-in : r .above + r .met ≤ z .n - src
+      pub above-in : r .above + r .met ≤ z .n - first
       above-in = omega (arith, parted .within, left-length)
 
       -- where it goes there is room for a term
@@ -160,34 +153,34 @@ module _ (z : Sizes) (store scratch : List ℕ) (src used to : ℕ) (h : Splicin
       term-room = stride-in (to + r .above) (z .limit) (z .w) (length store) (omega (arith, h .fits, above-in)) (h .store-room)
 
       -- words up to the rest of the others
-      next-words : (src + r .above + r .met) * (z .w + 1) ≡ src * (z .w + 1) + r .above * (z .w + 1) + r .met * (z .w + 1)
-      next-words = add-mul (src + r .above) (r .met) (z .w + 1) ∙ ap (λ (k : ℕ). k + r .met * (z .w + 1)) (add-mul src (r .above) (z .w + 1))
+      next-words : (first + r .above + r .met) * (z .w + 1) ≡ first * (z .w + 1) + r .above * (z .w + 1) + r .met * (z .w + 1)
+      next-words = add-mul (first + r .above) (r .met) (z .w + 1) ∙ ap (λ (k : ℕ). k + r .met * (z .w + 1)) (add-mul first (r .above) (z .w + 1))
 
       -- and up to where it goes
       to-words : (to + r .above + size (r .c)) * (z .w + 1) ≡ to * (z .w + 1) + r .above * (z .w + 1) + size (r .c) * (z .w + 1)
       to-words = add-mul (to + r .above) (size (r .c)) (z .w + 1) ∙ ap (λ (k : ℕ). k + size (r .c) * (z .w + 1)) (add-mul to (r .above) (z .w + 1))
 
       -- all of them lie inside
-      next-room : src * (z .w + 1) + r .above * (z .w + 1) + r .met * (z .w + 1) ≤ z .n * (z .w + 1)
-      next-room = rw (← next-words) (mul-le-mul-right (z .w + 1) (omega (arith, above-in, h .src-in)))
+      next-room : first * (z .w + 1) + r .above * (z .w + 1) + r .met * (z .w + 1) ≤ z .n * (z .w + 1)
+      next-room = rw (← next-words) (mul-le-mul-right (z .w + 1) (omega (arith, above-in, h .first-in)))
 
       -- so does what is made
-      made-room : (rest : ℕ) → rest ≤ z .n - (src + r .above + r .met) + (z .made - (used + 1)) → to * (z .w + 1) + r .above * (z .w + 1) + size (r .c) * (z .w + 1) + rest * (z .w + 1) ≤ length store
+      made-room : (rest : ℕ) → rest ≤ z .n - (first + r .above + r .met) + (z .made - (used + 1)) → to * (z .w + 1) + r .above * (z .w + 1) + size (r .c) * (z .w + 1) + rest * (z .w + 1) ≤ length store
       made-room rest k =
           let q : (to + r .above + size (r .c) + rest) * (z .w + 1) ≡ to * (z .w + 1) + r .above * (z .w + 1) + size (r .c) * (z .w + 1) + rest * (z .w + 1) = add-mul (to + r .above + size (r .c)) rest (z .w + 1) ∙ ap (λ (n : ℕ). n + rest * (z .w + 1)) to-words in
           rw (← q) (stride-le (to + r .above + size (r .c) + rest) (z .limit) (z .w) (length store) (omega (arith, h .fits, above-in, size-most (r .c))) (h .store-room))
 
-      module _ (s1 : List ℕ) (l1 : length s1 ≡ length store) (e1 : s1 ≡ cond (ltb (to * (z .w + 1)) (src * (z .w + 1))) (moved (src * (z .w + 1)) (to * (z .w + 1)) (r .above * (z .w + 1)) store) store) where
+      module _ (s1 : List ℕ) (l1 : length s1 ≡ length store) (e1 : s1 ≡ cond (ltb (to * (z .w + 1)) (first * (z .w + 1))) (moved (first * (z .w + 1)) (to * (z .w + 1)) (r .above * (z .w + 1)) store) store) where
         -- the rest of the others stands where it stood
-        next-left : terms-left z s1 (src + r .above + r .met) ≡ drop (r .above + r .met) (terms-left z store src)
+        next-left : terms-left z s1 (first + r .above + r .met) ≡ drop (r .above + r .met) (terms-left z store first)
         next-left =
-            let q : z .n - (src + r .above + r .met) ≡ z .n - src - (r .above + r .met) = omega arith in
-            let m : src * (z .w + 1) + (r .above + r .met) * (z .w + 1) ≡ src * (z .w + 1) + r .above * (z .w + 1) + r .met * (z .w + 1) = omega (arith, add-mul (r .above) (r .met) (z .w + 1)) in
-            let stays = rest-stays (z .w) (r .above) (src * (z .w + 1)) (to * (z .w + 1)) (r .met * (z .w + 1)) (size (r .c) * (z .w + 1)) (z .n * (z .w + 1)) 0 store s1 store store store (h .room) next-room (omega (arith, made-room 0 (omega arith))) l1 refl refl e1 in
-            rw (next-words, stays, q) (sym (decoded-drop (z .w) (r .above + r .met) (z .n - src) (drop (src * (z .w + 1)) store) above-in ∙ rw (drop-drop ((r .above + r .met) * (z .w + 1)) (src * (z .w + 1)) store, m)))
+            let q : z .n - (first + r .above + r .met) ≡ z .n - first - (r .above + r .met) = omega arith in
+            let m : first * (z .w + 1) + (r .above + r .met) * (z .w + 1) ≡ first * (z .w + 1) + r .above * (z .w + 1) + r .met * (z .w + 1) = omega (arith, add-mul (r .above) (r .met) (z .w + 1)) in
+            let stays = rest-stays (z .w) (r .above) (first * (z .w + 1)) (to * (z .w + 1)) (r .met * (z .w + 1)) (size (r .c) * (z .w + 1)) (z .n * (z .w + 1)) 0 store s1 store store store (h .room) next-room (omega (arith, made-room 0 (omega arith))) l1 refl refl e1 in
+            rw (next-words, stays, q) (sym (decoded-drop (z .w) (r .above + r .met) (z .n - first) (drop (first * (z .w + 1)) store) above-in ∙ rw (drop-drop ((r .above + r .met) * (z .w + 1)) (first * (z .w + 1)) store, m)))
 
         -- what is asked to put the rest together
-        pub asks-rest : Splicing z s1 scratch (src + r .above + r .met) (used + 1) (to + r .above + size (r .c))
+        pub asks-rest : Splicing z s1 scratch (first + r .above + r .met) (used + 1) (to + r .above + size (r .c))
         asks-rest = record {
           room = rw l1 (h .room);
           store-room = rw l1 (h .store-room);
@@ -196,18 +189,18 @@ module _ (z : Sizes) (store scratch : List ℕ) (src used to : ℕ) (h : Splicin
           some = h .some;
           short = h .short;
           l-high = h .l-high;
-          src-in = omega (arith, above-in, h .src-in);
+          first-in = omega (arith, above-in, h .first-in);
           used-in = omega arith;
           fits = omega (arith, h .fits, above-in, size-most (r .c));
-          falls = rw next-left (below-drop (2 ^ (64 * z .k)) (r .above + r .met) (terms-left z store src) (h .falls));
-          coefficients = rw next-left (coefficients-drop (2 ^ z .l) (r .above + r .met) (terms-left z store src) (h .coefficients));
+          falls = rw next-left (below-drop (2 ^ (64 * z .k)) (r .above + r .met) (terms-left z store first) (h .falls));
+          coefficients = rw next-left (coefficients-drop (2 ^ z .l) (r .above + r .met) (terms-left z store first) (h .coefficients));
           new-falls = rw (add-one used) (weaken (getD (new-terms z scratch) used (0, 0) .1) (2 ^ (64 * z .k)) (drop (suc used) (new-terms z scratch)) (omega (arith, new-low .0)) (new-low .1));
           new-coefficients = rw (add-one used) (new-some .2);
         }
 
-        module _ (rest : ℕ) (s2 s3 s4 : List ℕ) (sp : Spliced z s1 scratch (src + r .above + r .met) (used + 1) (to + r .above + size (r .c)) rest s2)
+        module _ (rest : ℕ) (s2 s3 s4 : List ℕ) (sp : Spliced z s1 scratch (first + r .above + r .met) (used + 1) (to + r .above + size (r .c)) rest s2)
             (l2 : length s2 ≡ length store) (l3 : length s3 ≡ length store) (l4 : length s4 ≡ length store)
-            (e3 : s3 ≡ cond (ltb (src * (z .w + 1)) (to * (z .w + 1))) (moved (src * (z .w + 1)) (to * (z .w + 1)) (r .above * (z .w + 1)) s2) s2)
+            (e3 : s3 ≡ cond (ltb (first * (z .w + 1)) (to * (z .w + 1))) (moved (first * (z .w + 1)) (to * (z .w + 1)) (r .above * (z .w + 1)) s2) s2)
             (e4 : s4 ≡ cond (eqb (r .c) 0) s3 (take ((to + r .above) * (z .w + 1)) s3 ++ ((r .c ∷ words-at scratch ((z .limit + used) * (z .w + 1) + 1) (z .w)) ++ drop ((to + r .above) * (z .w + 1) + (z .w + 1)) s3))) where
           -- the words of its set
           set-length : length (words-at scratch ((z .limit + used) * (z .w + 1) + 1) (z .w)) ≡ z .w
@@ -219,36 +212,36 @@ module _ (z : Sizes) (store scratch : List ℕ) (src used to : ℕ) (h : Splicin
 
           -- only its words are written last
           put-last : Only (to * (z .w + 1) + r .above * (z .w + 1)) (to * (z .w + 1) + r .above * (z .w + 1) + size (r .c) * (z .w + 1)) s3 s4
-          put-last = rw (← add-mul to (r .above) (z .w + 1)) (put-only (z .w) ((to + r .above) * (z .w + 1)) (r .c) (words-at scratch ((z .limit + used) * (z .w + 1) + 1) (z .w)) [] s3 s4 set-length put-room e4)
+          put-last = rw (← add-mul to (r .above) (z .w + 1)) (put-only (z .w) ((to + r .above) * (z .w + 1)) (r .c) (words-at scratch ((z .limit + used) * (z .w + 1) + 1) (z .w)) s3 s4 set-length put-room e4)
 
           -- the words of the rest, as the turn has them
-          front : (b : ℕ) → b ≤ src * (z .w + 1) + r .above * (z .w + 1) + r .met * (z .w + 1) → b ≤ to * (z .w + 1) + r .above * (z .w + 1) + size (r .c) * (z .w + 1) → take b s2 ≡ take b s1
+          front : (b : ℕ) → b ≤ first * (z .w + 1) + r .above * (z .w + 1) + r .met * (z .w + 1) → b ≤ to * (z .w + 1) + r .above * (z .w + 1) + size (r .c) * (z .w + 1) → take b s2 ≡ take b s1
           front b x y = sp .front b (rw next-words x) (rw to-words y)
 
           behind : (b : ℕ) → z .n * (z .w + 1) ≤ b → to * (z .w + 1) + r .above * (z .w + 1) + size (r .c) * (z .w + 1) + rest * (z .w + 1) ≤ b → drop b s2 ≡ drop b s1
           behind b x y = sp .behind b x (rw (add-mul (to + r .above + size (r .c)) rest (z .w + 1), to-words) y)
 
           -- all terms from the `to`-th place on: the stretch, the new term, the rest
-          all-there : decoded (z .w) (r .above + size (r .c) + rest) (drop (to * (z .w + 1)) s4) ≡ spliced z store scratch src used
+          all-there : decoded (z .w) (r .above + size (r .c) + rest) (drop (to * (z .w + 1)) s4) ≡ spliced z store scratch first used
           all-there =
-              let one = stretch-there (z .w) (r .above) (src * (z .w + 1)) (to * (z .w + 1)) (r .met * (z .w + 1)) (size (r .c) * (z .w + 1)) (z .n * (z .w + 1)) (rest * (z .w + 1)) store s1 s2 s3 s4 (h .room) next-room (made-room rest (sp .most)) l1 l2 l3 e1 front behind e3 put-last l4 in
-              let two = put-there (z .w) ((to + r .above) * (z .w + 1)) (r .c) (words-at scratch ((z .limit + used) * (z .w + 1) + 1) (z .w)) [] s3 s4 set-length put-room e4 in
-              let three = rest-there (z .w) (r .above) (src * (z .w + 1)) (to * (z .w + 1)) (r .met * (z .w + 1)) (size (r .c) * (z .w + 1)) (z .n * (z .w + 1)) (rest * (z .w + 1)) store s1 s2 s3 s4 (h .room) next-room (made-room rest (sp .most)) l1 l2 l3 e1 front behind e3 put-last l4 in
-              let G : Polynomial = gather (2 ^ z .l) (drop (r .above + r .met) (terms-left z store src) ++ drop (suc used) (new-terms z scratch)) in
-              let stretch : decoded (z .w) (r .above) (drop (to * (z .w + 1)) s4) ≡ take (r .above) (terms-left z store src) = one ∙ decoded-take (z .w) (r .above) (z .n - src) (drop (src * (z .w + 1)) store) (omega (arith, above-in)) in
-              let rests : decoded (z .w) rest (drop ((to + r .above + size (r .c)) * (z .w + 1)) s4) ≡ gather (2 ^ z .l) (drop (r .above + r .met) (terms-left z store src) ++ drop (suc used) (new-terms z scratch)) =
+              let one = stretch-there (z .w) (r .above) (first * (z .w + 1)) (to * (z .w + 1)) (r .met * (z .w + 1)) (size (r .c) * (z .w + 1)) (z .n * (z .w + 1)) (rest * (z .w + 1)) store s1 s2 s3 s4 (h .room) next-room (made-room rest (sp .most)) l1 l2 l3 e1 front behind e3 put-last l4 in
+              let two = put-there (z .w) ((to + r .above) * (z .w + 1)) (r .c) (words-at scratch ((z .limit + used) * (z .w + 1) + 1) (z .w)) s3 s4 set-length put-room e4 in
+              let three = rest-there (z .w) (r .above) (first * (z .w + 1)) (to * (z .w + 1)) (r .met * (z .w + 1)) (size (r .c) * (z .w + 1)) (z .n * (z .w + 1)) (rest * (z .w + 1)) store s1 s2 s3 s4 (h .room) next-room (made-room rest (sp .most)) l1 l2 l3 e1 front behind e3 put-last l4 in
+              let G : Polynomial = gather (2 ^ z .l) (drop (r .above + r .met) (terms-left z store first) ++ drop (suc used) (new-terms z scratch)) in
+              let stretch : decoded (z .w) (r .above) (drop (to * (z .w + 1)) s4) ≡ take (r .above) (terms-left z store first) = one ∙ decoded-take (z .w) (r .above) (z .n - first) (drop (first * (z .w + 1)) store) (omega (arith, above-in)) in
+              let rests : decoded (z .w) rest (drop ((to + r .above + size (r .c)) * (z .w + 1)) s4) ≡ gather (2 ^ z .l) (drop (r .above + r .met) (terms-left z store first) ++ drop (suc used) (new-terms z scratch)) =
               ap (decoded (z .w) rest) (rw to-words three) ∙ sp .there ∙ rw (next-left, add-one used) in
               decoded-parts (z .w) (r .above + size (r .c)) rest (to * (z .w + 1)) ((to + r .above + size (r .c)) * (z .w + 1)) s4 (to-words ∙ omega (arith, add-mul (r .above) (size (r .c)) (z .w + 1)))
               ∙ rw (decoded-parts (z .w) (r .above) (size (r .c)) (to * (z .w + 1)) ((to + r .above) * (z .w + 1)) s4 (add-mul to (r .above) (z .w + 1)), stretch, rests, append-assoc, two G) (sym (parted .parts))
 
           -- the turn is done
-          pub turn-done : Spliced z store scratch src used to (r .above + size (r .c) + rest) s4
+          pub turn-done : Spliced z store scratch first used to (r .above + size (r .c) + rest) s4
           turn-done = record {
             most = omega (arith, sp .most, above-in, size-most (r .c));
             counted = sym (length-decoded (z .w) (r .above + size (r .c) + rest) (drop (to * (z .w + 1)) s4)) ∙ ap length all-there;
             there = all-there;
-            front = front-stays (z .w) (r .above) (src * (z .w + 1)) (to * (z .w + 1)) (r .met * (z .w + 1)) (size (r .c) * (z .w + 1)) (z .n * (z .w + 1)) (rest * (z .w + 1)) store s1 s2 s3 s4 (h .room) next-room (made-room rest (sp .most)) l1 l2 l3 e1 front behind e3 put-last l4;
-            behind = λ b x y. behind-stays (z .w) (r .above) (src * (z .w + 1)) (to * (z .w + 1)) (r .met * (z .w + 1)) (size (r .c) * (z .w + 1)) (z .n * (z .w + 1)) (rest * (z .w + 1)) store s1 s2 s3 s4 (h .room) next-room (made-room rest (sp .most)) l1 l2 l3 e1 front behind e3 put-last l4 b x (omega (arith, all-words));
+            front = front-stays (z .w) (r .above) (first * (z .w + 1)) (to * (z .w + 1)) (r .met * (z .w + 1)) (size (r .c) * (z .w + 1)) (z .n * (z .w + 1)) (rest * (z .w + 1)) store s1 s2 s3 s4 (h .room) next-room (made-room rest (sp .most)) l1 l2 l3 e1 front behind e3 put-last l4;
+            behind = λ b x y. behind-stays (z .w) (r .above) (first * (z .w + 1)) (to * (z .w + 1)) (r .met * (z .w + 1)) (size (r .c) * (z .w + 1)) (z .n * (z .w + 1)) (rest * (z .w + 1)) store s1 s2 s3 s4 (h .room) next-room (made-room rest (sp .most)) l1 l2 l3 e1 front behind e3 put-last l4 b x (omega (arith, all-words));
           }
             where
               all-words : (to + (r .above + size (r .c) + rest)) * (z .w + 1) ≡ to * (z .w + 1) + r .above * (z .w + 1) + size (r .c) * (z .w + 1) + rest * (z .w + 1)

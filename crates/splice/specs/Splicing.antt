@@ -2,7 +2,7 @@
 use mathlib.Core.Path.{_≡_}
 use mathlib.Core.List.{List, _++_}
 use Prim.Native.Nat.{ℕ, zero, suc, _+_, _-_, _*_, _%_, _^_, _<_, _≤_}
-use lib.ListN.{length, getD, take, drop, replicate}
+use lib.ListN.{length, getD, take, drop}
 use Rattle.rules.specs.Polynomial.{Polynomial, Below, Coefficients, gather}
 use Rattle.words.specs.Numbers.{num, words-at}
 use Rattle.words.specs.Stored.{decoded}
@@ -39,16 +39,16 @@ pub record Spotted (m : ℕ) (p : Polynomial) (c s : ℕ) (r : Spot) : Type 0 wh
   pub both : r .above < length p → getD p (r .above) (0, 0) .1 ≡ s → (r .met ≡ 1) × (r .c ≡ (c + getD p (r .above) (0, 0) .0) % m)
   pub alone : (r .above < length p → getD p (r .above) (0, 0) .1 ≡ s → ⊥) → (r .met ≡ 0) × (r .c ≡ c)
 
--- the store's terms from the `src`-th on
+-- the store's terms from the `first`-th on
 abbrev pub terms-left : Sizes → List ℕ → ℕ → Polynomial
-terms-left z store src = decoded (z .w) (z .n - src) (drop (src * (z .w + 1)) store)
+terms-left z store first = decoded (z .w) (z .n - first) (drop (first * (z .w + 1)) store)
 
 -- these and the new ones from the `used`-th on, gathered
 abbrev pub spliced : Sizes → List ℕ → List ℕ → ℕ → ℕ → Polynomial
-spliced z store scratch src used = gather (2 ^ z .l) (terms-left z store src ++ drop used (new-terms z scratch))
+spliced z store scratch first used = gather (2 ^ z .l) (terms-left z store first ++ drop used (new-terms z scratch))
 
 -- what is asked to put them together from the `to`-th place on: both lists fall, and there is room
-pub record Splicing (z : Sizes) (store scratch : List ℕ) (src used to : ℕ) : Type 0 where
+pub record Splicing (z : Sizes) (store scratch : List ℕ) (first used to : ℕ) : Type 0 where
   pub room : z .n * (z .w + 1) ≤ length store
   pub store-room : z .limit * (z .w + 1) ≤ length store
   pub scratch-room : (z .limit + z .made) * (z .w + 1) ≤ length scratch
@@ -56,18 +56,18 @@ pub record Splicing (z : Sizes) (store scratch : List ℕ) (src used to : ℕ) :
   pub some : 0 < z .w
   pub short : z .k ≤ z .w
   pub l-high : z .l ≤ 64
-  pub src-in : src ≤ z .n
+  pub first-in : first ≤ z .n
   pub used-in : used ≤ z .made
-  pub fits : to + (z .n - src) + (z .made - used) ≤ z .limit
-  pub falls : Below (2 ^ (64 * z .k)) (terms-left z store src)
-  pub coefficients : Coefficients (2 ^ z .l) (terms-left z store src)
+  pub fits : to + (z .n - first) + (z .made - used) ≤ z .limit
+  pub falls : Below (2 ^ (64 * z .k)) (terms-left z store first)
+  pub coefficients : Coefficients (2 ^ z .l) (terms-left z store first)
   pub new-falls : Below (2 ^ (64 * z .k)) (drop used (new-terms z scratch))
   pub new-coefficients : Coefficients (2 ^ z .l) (drop used (new-terms z scratch))
 
 -- they are there; words in front of both places are as they were, and those behind what the store held and what it holds
-pub record Spliced (z : Sizes) (store scratch : List ℕ) (src used to r : ℕ) (store′ : List ℕ) : Type 0 where
-  pub most : r ≤ z .n - src + (z .made - used)
-  pub counted : r ≡ length (spliced z store scratch src used)
-  pub there : decoded (z .w) r (drop (to * (z .w + 1)) store′) ≡ spliced z store scratch src used
-  pub front : (b : ℕ) → b ≤ src * (z .w + 1) → b ≤ to * (z .w + 1) → take b store′ ≡ take b store
+pub record Spliced (z : Sizes) (store scratch : List ℕ) (first used to r : ℕ) (store′ : List ℕ) : Type 0 where
+  pub most : r ≤ z .n - first + (z .made - used)
+  pub counted : r ≡ length (spliced z store scratch first used)
+  pub there : decoded (z .w) r (drop (to * (z .w + 1)) store′) ≡ spliced z store scratch first used
+  pub front : (b : ℕ) → b ≤ first * (z .w + 1) → b ≤ to * (z .w + 1) → take b store′ ≡ take b store
   pub behind : (b : ℕ) → z .n * (z .w + 1) ≤ b → (to + r) * (z .w + 1) ≤ b → drop b store′ ≡ drop b store

@@ -3,27 +3,17 @@ ghost use mathlib.Core.Path.{_≡_};
 ghost use mathlib.Core.Bool.{cond};
 ghost use mathlib.Core.List.{_++_, _∷_};
 ghost use Prim.Native.Nat.{_+_, _≤_};
-ghost use lib.Dec.{ltb, eqb};
+ghost use lib.Dec.{eqb};
 ghost use lib.ListN.{length, take, drop};
 ghost use Rattle.words.specs.Numbers.{words-at};
 ghost use Rattle.splice.specs.Splicing.{moved};
 
-// Moves the n words at `from` to `to`, if that is further in front.
-pub fn move_forward(words: &mut [u64], from: usize, to: usize, n: usize)
+// Moves the n words at `from` to `to`, if it is wanted.
+pub fn move_if(words: &mut [u64], wanted: bool, from: usize, to: usize, n: usize)
     requires { ⌜ (from + n ≤ length (now words)) × (to + n ≤ length (now words)) ⌝ }
-    ensures { λ r. ⌜ now (words .exit) ≡ cond (ltb to from) (moved from to n (now (words .entry))) (now (words .entry)) ⌝ }
+    ensures { λ r. ⌜ now (words .exit) ≡ cond wanted (moved from to n (now (words .entry))) (now (words .entry)) ⌝ }
 {
-    if to < from {
-        words::stretches::shift(words, from, to, n);
-    }
-}
-
-// Moves the n words at `from` to `to`, if that is further behind.
-pub fn move_back(words: &mut [u64], from: usize, to: usize, n: usize)
-    requires { ⌜ (from + n ≤ length (now words)) × (to + n ≤ length (now words)) ⌝ }
-    ensures { λ r. ⌜ now (words .exit) ≡ cond (ltb from to) (moved from to n (now (words .entry))) (now (words .entry)) ⌝ }
-{
-    if from < to {
+    if wanted {
         words::stretches::shift(words, from, to, n);
     }
 }

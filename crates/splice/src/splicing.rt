@@ -1,6 +1,5 @@
 // The new terms, which stand in scratch behind room for as many terms as the limit allows, put among the terms of a store.
-use crate::moving::move_back;
-use crate::moving::move_forward;
+use crate::moving::move_if;
 use crate::moving::put;
 use crate::spots::place;
 use crate::spots::size;
@@ -11,16 +10,23 @@ ghost use lib.ListN.{length, drop, replicate};
 ghost use Rattle.rules.specs.Judging.{polynomial-words, padded};
 ghost use Rattle.splice.specs.Splicing.{Splicing, Spliced, spliced};
 
-// Puts the new terms from the `used`-th on among the store's from the `src`-th on; both then begin at the `to`-th place: how many terms that
+// Puts the new terms from the `used`-th on among the store's from the `first`-th on; both then begin at the `to`-th place: how many terms that
 // are. A stretch that goes further in front is moved before what stands behind it, and one that goes further behind after that: so
 // none is overwritten before it is moved.
-fn splice(store: &mut [u64], z: Sizes, scratch: &[u64], src: usize, used: usize, to: usize) -> usize
-    requires { ⌜ Splicing z (now store) (now scratch) src used to ⌝ }
-    ensures { λ r. ⌜ Spliced z (now (store .entry)) (now (scratch .entry)) src used to r (now (store .exit)) ⌝ }
+fn splice(
+    store: &mut [u64],
+    z: Sizes,
+    scratch: &[u64],
+    first: usize,
+    used: usize,
+    to: usize,
+) -> usize
+    requires { ⌜ Splicing z (now store) (now scratch) first used to ⌝ }
+    ensures { λ r. ⌜ Spliced z (now (store .entry)) (now (scratch .entry)) first used to r (now (store .exit)) ⌝ }
 {
     let stride = z.w + 1;
-    let left = z.n - src;
-    let here = src * stride;
+    let left = z.n - first;
+    let here = first * stride;
     let there = to * stride;
     if used == z.made {
         words::stretches::shift(store, here, there, left * stride);
@@ -30,16 +36,16 @@ fn splice(store: &mut [u64], z: Sizes, scratch: &[u64], src: usize, used: usize,
     let s = place(&store[here..], left, z, scratch, from);
     let above = s.above;
     let count = size(s.c);
-    move_forward(store, here, there, above * stride);
+    move_if(store, there < here, here, there, above * stride);
     let rest = splice(
         store,
         z,
         scratch,
-        src + above + s.met,
+        first + above + s.met,
         used + 1,
         to + above + count,
     );
-    move_back(store, here, there, above * stride);
+    move_if(store, here < there, here, there, above * stride);
     put(scratch, from + 1, z.w, store, (to + above) * stride, s.c);
     above + count + rest
 }

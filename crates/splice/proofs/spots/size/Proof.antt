@@ -1,5 +1,5 @@
 -- By whether the coefficient is 0.
-use mathlib.Core.Path.{_≡_, refl, sym}
+use mathlib.Core.Path.{_≡_, refl}
 use Prim.Native.Nat.{ℕ, zero, suc}
 use Rattle.splice.specs.Splicing.{size}
 use Rattle.splice.proofs.spots.size.Statement.{statement}

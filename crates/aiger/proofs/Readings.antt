@@ -10,9 +10,9 @@ use Rattle.rules.specs.Netlist.{needed, counts-wrong, table-short}
 use Rattle.rules.specs.Says.{first}
 use Rattle.rules.specs.Reading.{Scan, found, missing, header-line, input-line, output-line, gate-line, lines, refused, end-read, gates-read, outputs-read, inputs-read, counts-read, counts-of, header-read, reading}
 use Rattle.rules.specs.declared.counts.Counts.{Counts}
-use Rattle.aiger.specs.Sections.{bare}
+use Rattle.lines.specs.Sections.{bare}
 use Rattle.aiger.specs.Checked.{RightText}
-use Rattle.aiger.proofs.Scans.{found-missing}
+use Rattle.lines.proofs.Scans.{found-missing}
 
 -- nothing behind the numbers: nothing was found
 bare-missing : (s : Scan) → bare s ≡ missing → s ≡ missing

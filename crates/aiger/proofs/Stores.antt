@@ -8,9 +8,9 @@ use native.Mathlib.Omega.{arith}
 use lib.ListN.{length, take, drop, set, length-append, take-append-drop}
 use lib.Seq.{drop-cons, length-take-le, set-at}
 use Rattle.rules.specs.Reading.{Scan, found, missing, with-numbers, and-then, lines}
-use Rattle.aiger.specs.Sections.{bare}
+use Rattle.lines.specs.Sections.{bare}
 use Rattle.aiger.specs.Stored.{Words}
-use Rattle.aiger.proofs.Scans.{found-missing, lines-more, lines-stop}
+use Rattle.lines.proofs.Scans.{found-missing, lines-more, lines-stop}
 
 -- one word more, stored behind the others
 pub one-more : (base size : ℕ) (table words : List ℕ) (x : ℕ) → base + size < length table → length words ≡ size

@@ -1,5 +1,3 @@
--- What the functions that read a text find, said with the definitions of the rules.
-pub mod Found
-pub mod Sections
+-- What the two passes of the reader find and leave, said with the definitions of the rules.
 pub mod Stored
 pub mod Checked

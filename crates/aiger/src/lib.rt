@@ -1,18 +1,16 @@
 // Reads a netlist text into a table of literals: one pass checks every line and writes nothing, and where all are
 // right a second pass writes.
-mod fields; // fields.rt: bytes, digits, and a number with the byte behind it
-mod lines; // lines.rt: the header, the lines of each section, and all lines of one
 mod tables; // tables.rt: the second pass
 
 ghost use Rattle.rules.specs.Reading.{ReadAs};
 ghost use Rattle.aiger.specs.Checked.{Checked};
-use crate::fields::Place;
-use crate::lines::Heading;
-use crate::lines::Section;
-use crate::lines::header;
-use crate::lines::pass;
 use crate::tables::store_gates;
 use crate::tables::store_outputs;
+use lines::fields::Place;
+use lines::sections::Heading;
+use lines::sections::Section;
+use lines::sections::header;
+use lines::sections::pass;
 use netlist::counts::counts_wrong;
 use netlist::counts::table_short;
 use rules::answers::Text;

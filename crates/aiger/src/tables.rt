@@ -3,10 +3,10 @@ ghost use Prim.Native.Nat.{_+_, _*_, _≤_};
 ghost use lib.ListN.{length, drop};
 ghost use Rattle.rules.specs.Reading.{output-line, gate-line, lines};
 ghost use Rattle.aiger.specs.Stored.{Finds, Stored};
-use crate::fields::Value;
-use crate::lines::Gate;
-use crate::lines::gate_line;
-use crate::lines::output_line;
+use lines::fields::Value;
+use lines::sections::Gate;
+use lines::sections::gate_line;
+use lines::sections::output_line;
 use rules::counts::Counts;
 
 // Stores the literals of the outputs in front, and gives the place behind their lines.

@@ -7,9 +7,9 @@ use lib.ListN.{drop, length-drop, drop-of-length-le}
 use borrow.Author.Needs.{needs}
 use Rattle.rules.specs.Netlist.{counts-wrong, table-short}
 use Rattle.rules.specs.Reading.{found, header-line, input-line, output-line, gate-line, lines}
-use Rattle.aiger.specs.Found.{place-scan}
-use Rattle.aiger.specs.Sections.{bare, section-line, heading-scan}
-use Rattle.aiger.proofs.Scans.{scanned}
+use Rattle.lines.specs.Found.{place-scan}
+use Rattle.lines.specs.Sections.{bare, section-line, heading-scan}
+use Rattle.lines.proofs.Scans.{scanned}
 use Rattle.aiger.proofs.Readings.{header-refused, counts-refused, table-refused, inputs-refused, outputs-refused, gates-refused, end-refused, all-right}
 use Rattle.aiger.proofs.checked.Statement.{statement}
 use Rattle.aiger.proofs.checked.Tie as tie

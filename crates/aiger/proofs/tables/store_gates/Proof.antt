@@ -6,8 +6,8 @@ use native.Mathlib.Omega.{arith}
 use lib.ListN.{length, drop, length-set}
 use borrow.Author.Needs.{needs}
 use Rattle.rules.specs.Reading.{gate-line}
-use Rattle.aiger.specs.Sections.{gate-scan}
-use Rattle.aiger.proofs.Scans.{scanned}
+use Rattle.lines.specs.Sections.{gate-scan}
+use Rattle.lines.proofs.Scans.{scanned}
 use Rattle.aiger.proofs.Stores.{Storing, storing-none, storing-two, storing-stop, storing-all}
 use Rattle.aiger.proofs.tables.store_gates.Statement.{statement}
 use Rattle.aiger.proofs.tables.store_gates.Tie as tie

@@ -7,8 +7,8 @@ use native.Mathlib.Omega.{arith}
 use lib.ListN.{length, drop, length-set}
 use borrow.Author.Needs.{needs}
 use Rattle.rules.specs.Reading.{output-line}
-use Rattle.aiger.specs.Found.{value-scan}
-use Rattle.aiger.proofs.Scans.{scanned}
+use Rattle.lines.specs.Found.{value-scan}
+use Rattle.lines.proofs.Scans.{scanned}
 use Rattle.aiger.proofs.Stores.{Storing, storing-none, storing-one, storing-stop, storing-all}
 use Rattle.aiger.proofs.tables.store_outputs.Statement.{statement}
 use Rattle.aiger.proofs.tables.store_outputs.Tie as tie

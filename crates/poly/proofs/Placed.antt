@@ -19,16 +19,14 @@ use Rattle.words.proofs.Stored.{decoded-drop}
 use Rattle.weave.specs.Seeking.{Last}
 use Rattle.weave.specs.Weaving.{without, old-terms, new-terms}
 use Rattle.weave.specs.declared.weaving.Sizes.{Sizes}
-use Rattle.weave.proofs.Falling.{coefficients-drop}
+use Rattle.weave.proofs.Falling.{below-drop, coefficients-drop}
 use Rattle.weave.proofs.Tops.{first-below, all-below, free-behind}
 use Rattle.weave.proofs.Without.{without-held, without-rest}
 use Rattle.splice.specs.Splicing.{Splicing, spliced}
-use Rattle.splice.proofs.Turning.{below-drop}
 use Rattle.poly.specs.Stepping.{Both, Together, in-place}
 
 -- what being put in place says
 pub record Placed (z : Sizes) (store : List ℕ) : Type 0 where
-  pub few : z .made ≤ 16
   pub fits : z .n - z .end + z .made ≤ z .limit
   pub leads : num (words-at store 1 (z .w)) < 2 ^ (z .v + 1)
 
@@ -38,7 +36,7 @@ unfolding in-place
 placed z store = go (leb (z .made) 16) (leb (z .n - z .end + z .made) (z .limit)) (ltb (num (words-at store 1 (z .w))) (2 ^ (z .v + 1))) refl refl refl
   where
     go : (a b c : Bool) → leb (z .made) 16 ≡ a → leb (z .n - z .end + z .made) (z .limit) ≡ b → ltb (num (words-at store 1 (z .w))) (2 ^ (z .v + 1)) ≡ c → (a && (b && c)) ≡ true → Placed z store
-    go true true true x y w e = record { few = leb-true _ _ x; fits = leb-true _ _ y; leads = ltb-true _ _ w }
+    go true true true x y w e = record { fits = leb-true _ _ y; leads = ltb-true _ _ w }
     go true true false x y w e = absurd (false≢true e)
     go true false c x y w e = absurd (false≢true e)
     go false b c x y w e = absurd (false≢true e)

@@ -18,7 +18,7 @@ use Rattle.rules.specs.Values.{bit}
 use Rattle.rules.proofs.Bits.{bit-out}
 use Rattle.words.specs.Stored.{decoded}
 use Rattle.words.proofs.Stored.{length-decoded, decoded-drop, stride-le}
-use Rattle.words.proofs.Encoded.{drop-zeros, length-polynomial-words, polynomial-words-append, words-decoded, zeros-behind}
+use Rattle.words.proofs.Encoded.{zeros-later, length-polynomial-words, polynomial-words-append, words-decoded, zeros-behind}
 use Rattle.gates.specs.Literals.{Apart}
 use Rattle.weave.specs.Seeking.{Last, Uses}
 use Rattle.weave.specs.Weaving.{old-terms, Joined}
@@ -81,11 +81,10 @@ cleared-behind K N U front store d d′ hk hn hu l z c k =
     let f : take K d ≡ front = ap (λ (x : List ℕ). take K x) c ∙ take-at front (drop K store) K l in
     let g : drop K d ≡ drop K store = ap (λ (x : List ℕ). drop K x) c ∙ drop-at front (drop K store) K l in
     let ku : K + (U - K) ≡ U = omega arith in
-    let nu : N + (U - N) ≡ U = omega arith in
     let b : drop U d ≡ drop U store = sym (drop-drop (U - K) K d ∙ rw ku) ∙ ap (λ (x : List ℕ). drop (U - K) x) g ∙ (drop-drop (U - K) K store ∙ rw ku) in
-    let o : drop U store ≡ replicate (length store - N - (U - N)) 0 = sym (drop-drop (U - N) N store ∙ rw nu) ∙ ap (λ (x : List ℕ). drop (U - N) x) z ∙ drop-zeros (U - N) (length store - N) in
-    let s : U - K + (length store - N - (U - N)) ≡ length store - K = omega arith in
-    k ∙ rw (f, b, o, replicate-append-replicate {A = ℕ} (U - K) (length store - N - (U - N)) 0, s)
+    let o : drop U store ≡ replicate (length store - U) 0 = zeros-later N U store hn z in
+    let s : U - K + (length store - U) ≡ length store - K = omega arith in
+    k ∙ rw (f, b, o, replicate-append-replicate {A = ℕ} (U - K) (length store - U) 0, s)
 
 -- T words of the store shifted from F to E, and the first E of scratch moved in front of them
 module _ (E F T : ℕ) (store scratch d e : List ℕ) (he : E ≤ length scratch) (hf : F + T ≤ length store) (ht : E + T ≤ length store)

@@ -66,8 +66,8 @@ fn settle(store: &mut [u64], n: usize, w: usize, scratch: &mut [u64], at: usize,
     words::stretches::clear(store, end, most);
 }
 
-// Both lists gathered in the store by way of scratch: how many terms it then holds; limit + 1, and the store as it was, if there would be more than
-// `limit`. Scratch is as it was.
+// Both lists gathered in the store by way of scratch: how many terms it then holds; limit + 1, and the store as it was, if there would
+// be more than `limit`. Scratch is as it was.
 fn woven(store: &mut [u64], z: Sizes, scratch: &mut [u64]) -> usize
     requires { ⌜ Both z (now store) (now scratch) ⌝ }
     ensures { λ r. ⌜ Together z (gather (2 ^ z .l) (without (z .v) (old-terms z (now (store .entry))) ++ new-terms z (now (scratch .entry)))) (now (store .entry)) (now (scratch .entry)) r (now (store .exit)) (now (scratch .exit)) ⌝ }
@@ -82,13 +82,16 @@ fn woven(store: &mut [u64], z: Sizes, scratch: &mut [u64]) -> usize
     held
 }
 
+// So few new terms are put in place: it is a call for each, so this bounds the stack.
+const FEW: usize = 16;
+
 // Whether the new terms are put in place: they are few, there is room for all terms, and no variable is above v, so that the terms that
 // hold it stand in front. Where they are many, or the limit is near, the way through scratch is taken.
 fn goes_in_place(store: &[u64], z: Sizes) -> bool
     requires { ⌜ (z .n * (z .w + 1) ≤ length (now store)) × (0 < z .n) × (z .end ≤ z .n) × (z .w ≤ 16) × (z .v < 64 * z .w) × (num (words-at (now store) 1 (z .w)) < 2 ^ (64 * z .w)) ⌝ }
     ensures { λ r. ⌜ r ≡ in-place z (now (store .entry)) ⌝ }
 {
-    if z.made > 16 {
+    if z.made > FEW {
         return false;
     }
     if z.n - z.end + z.made > z.limit {

@@ -5,21 +5,14 @@ use Prim.Native.Nat.{ℕ, _+_, _-_, _*_, _^_, _<_, _≤_}
 use native.Mathlib.Nat.{zero-add, zero-mul, mul-le-mul-right}
 use native.Mathlib.Omega.{arith}
 use lib.ListN.{length, getD, take, drop, replicate, replicate-append-replicate}
-use lib.Seq.{drop-at, drop-drop, take-at, length-take-le}
+use lib.Seq.{drop-at, take-at, length-take-le}
 use Rattle.rules.specs.Judging.{polynomial-words, padded}
 use Rattle.words.specs.Stored.{decoded}
-use Rattle.words.proofs.Encoded.{drop-zeros, stored}
+use Rattle.words.proofs.Encoded.{zeros-later, stored}
 use Rattle.words.proofs.Stored.{stride-le}
 use Rattle.weave.specs.declared.weaving.Sizes.{Sizes}
 use Rattle.splice.specs.Splicing.{Splicing, Spliced, spliced}
 use Rattle.splice.proofs.Written.{same-terms}
-
--- zeros, seen from further behind
-later-zeros : (a b : ℕ) (s : List ℕ) → a ≤ b → drop a s ≡ replicate (length s - a) 0 → drop b s ≡ replicate (length s - b) 0
-later-zeros a b s h z =
-    let q : a + (b - a) ≡ b = omega arith in
-    let n : length s - a - (b - a) ≡ length s - b = omega arith in
-    sym (drop-drop (b - a) a s ∙ rw q) ∙ ap (λ (x : List ℕ). drop (b - a) x) z ∙ drop-zeros (b - a) (length s - a) ∙ rw n
 
 module _ (z : Sizes) (store scratch : List ℕ) (r : ℕ) (store1 : List ℕ) (h : Splicing z store scratch (z .end) 0 0) (zeros : drop (z .n * (z .w + 1)) store ≡ replicate (length store - z .n * (z .w + 1)) 0)
     (sp : Spliced z store scratch (z .end) 0 0 r store1) (l1 : length store1 ≡ length store) where
@@ -39,7 +32,7 @@ module _ (z : Sizes) (store scratch : List ℕ) (r : ℕ) (store1 : List ℕ) (h
   pub finished : z .n ≤ r → ((i : ℕ) → getD store1 i 0 < 2 ^ 64) → store1 ≡ padded (length store) (polynomial-words (z .w) (spliced z store scratch (z .end) 0))
   finished l f =
       let m : z .n * (z .w + 1) ≤ r * (z .w + 1) = mul-le-mul-right (z .w + 1) l in
-      let behind : drop (r * (z .w + 1)) store1 ≡ replicate (length store1 - r * (z .w + 1)) 0 = stays (r * (z .w + 1)) m (omega arith) ∙ later-zeros (z .n * (z .w + 1)) (r * (z .w + 1)) store m zeros ∙ rw l1 in
+      let behind : drop (r * (z .w + 1)) store1 ≡ replicate (length store1 - r * (z .w + 1)) 0 = stays (r * (z .w + 1)) m (omega arith) ∙ zeros-later (z .n * (z .w + 1)) (r * (z .w + 1)) store m zeros ∙ rw l1 in
       rw (l1, in-front) at (stored (z .w) store1 r f (rw l1 held-room) behind)
 
   -- fewer: what is left over is cleared

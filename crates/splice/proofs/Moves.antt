@@ -12,7 +12,8 @@ use borrow.Author.Tests.{ne-eqb, ltb-true, ltb-false, le-ltb}
 use Rattle.rules.specs.Polynomial.{Polynomial, keep}
 use Rattle.words.specs.Numbers.{num}
 use Rattle.words.specs.Stored.{decoded}
-use Rattle.splice.specs.Splicing.{size, moved}
+use Rattle.words.specs.Stretches.{moved}
+use Rattle.splice.specs.Splicing.{size}
 use Rattle.splice.proofs.Written.{Only, only-none, only-written, same-terms, moved-terms, put-term}
 
 -- u terms at word H moved to word T, if that is wanted

@@ -19,11 +19,12 @@ use Rattle.words.proofs.Numbers.{length-words-at}
 use Rattle.words.proofs.Stored.{length-decoded, decoded-drop, decoded-take, stride-in, stride-le}
 use Rattle.weave.specs.Weaving.{new-terms}
 use Rattle.weave.specs.declared.weaving.Sizes.{Sizes}
-use Rattle.weave.proofs.Falling.{coefficients-drop}
+use Rattle.weave.proofs.Falling.{below-drop, coefficients-drop}
 use Rattle.weave.proofs.Fronts.{under-append}
 use Rattle.weave.proofs.Turns.{new-at}
 use Rattle.weave.proofs.Woven.{weave-none, weave-rest}
-use Rattle.splice.specs.Splicing.{size, moved, Spotting, Spotted, Splicing, Spliced, terms-left, spliced}
+use Rattle.words.specs.Stretches.{moved}
+use Rattle.splice.specs.Splicing.{size, Spotting, Spotted, Splicing, Spliced, terms-left, spliced}
 use Rattle.splice.specs.declared.spots.Spot.{Spot}
 use Rattle.splice.proofs.Written.{Only, only-written, moved-terms, decoded-parts}
 use Rattle.splice.proofs.Moves.{rest-stays, stretch-there, rest-there, front-stays, behind-stays, put-only, put-there}
@@ -34,12 +35,6 @@ pub size-most : (c : ℕ) → size c ≤ 1
 unfolding size
 size-most zero = omega arith
 size-most (suc c) = omega arith
-
--- what is left of a falling list falls
-pub below-drop : (b i : ℕ) (p : Polynomial) → Below b p → Below b (drop i p)
-below-drop b zero p h = h
-below-drop b (suc i) [] h = tt
-below-drop b (suc i) (x ∷ p) h = weaken (x .1) b (drop i p) (omega (arith, h .0)) (below-drop (x .1) i p (h .1))
 
 -- a falling list is gathered
 gathered : (m hi : ℕ) (p : Polynomial) → 0 < m → Below hi p → Coefficients m p → gather m (p ++ []) ≡ p

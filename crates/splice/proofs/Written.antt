@@ -9,7 +9,7 @@ use lib.Seq.{length-take-le, take-take, take-append-le, drop-append-le, drop-dro
 use Rattle.words.specs.Numbers.{num}
 use Rattle.words.specs.Stored.{decoded}
 use Rattle.words.proofs.Stored.{decoded-front, decoded-split}
-use Rattle.splice.specs.Splicing.{moved}
+use Rattle.words.specs.Stretches.{moved}
 
 -- only words from a to before e were changed
 pub record Only (a e : ℕ) (d d′ : List ℕ) : Type 0 where

@@ -16,10 +16,6 @@ unfoldable pub size : ℕ → ℕ
 size zero = 0
 size (suc c) = 1
 
--- the n words at `from` moved to `to`
-abbrev pub moved : ℕ → ℕ → ℕ → List ℕ → List ℕ
-moved from to n d = take to d ++ (take n (drop from d) ++ drop (to + n) d)
-
 -- what is asked to find where a new term goes: the terms' sets fall and use k words, as its own does
 pub record Spotting (terms : List ℕ) (n : ℕ) (z : Sizes) (scratch : List ℕ) (from : ℕ) : Type 0 where
   pub room : n * (z .w + 1) ≤ length terms

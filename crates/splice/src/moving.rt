@@ -6,7 +6,7 @@ ghost use Prim.Native.Nat.{_+_, _≤_};
 ghost use lib.Dec.{eqb};
 ghost use lib.ListN.{length, take, drop};
 ghost use Rattle.words.specs.Numbers.{words-at};
-ghost use Rattle.splice.specs.Splicing.{moved};
+ghost use Rattle.words.specs.Stretches.{moved};
 
 // Moves the n words at `from` to `to`, if it is wanted.
 pub fn move_if(words: &mut [u64], wanted: bool, from: usize, to: usize, n: usize)

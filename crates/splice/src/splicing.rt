@@ -10,9 +10,9 @@ ghost use lib.ListN.{length, drop, replicate};
 ghost use Rattle.rules.specs.Judging.{polynomial-words, padded};
 ghost use Rattle.splice.specs.Splicing.{Splicing, Spliced, spliced};
 
-// Puts the new terms from the `used`-th on among the store's from the `first`-th on; both then begin at the `to`-th place: how many terms that
-// are. A stretch that goes further in front is moved before what stands behind it, and one that goes further behind after that: so
-// none is overwritten before it is moved.
+// Puts the new terms from the `used`-th on among the store's from the `first`-th on, all of them from the `to`-th place on: how many
+// terms that are. A stretch that goes further in front is moved before what stands behind it, and one that goes further behind after
+// that: so none is overwritten before it is moved.
 fn splice(
     store: &mut [u64],
     z: Sizes,

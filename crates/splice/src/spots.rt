@@ -1,12 +1,11 @@
 // Where a new term goes among terms whose sets fall.
 use weave::seeking::above;
+use weave::seeking::equal;
 use weave::weaving::Sizes;
 use words::coefficients::sum;
-use words::sets::Order;
 ghost use mathlib.Core.Path.{_≡_};
-ghost use Prim.Native.Nat.{_+_, _*_, _^_, _<_, _≤_};
-ghost use lib.Dec.{eqb};
-ghost use lib.ListN.{length, getD};
+ghost use Prim.Native.Nat.{_+_, _*_, _^_, _<_};
+ghost use lib.ListN.{getD};
 ghost use Rattle.words.specs.Numbers.{num, words-at};
 ghost use Rattle.words.specs.Stored.{decoded};
 ghost use Rattle.splice.specs.Splicing.{size, Spotting, Spotted};
@@ -26,19 +25,6 @@ pub fn size(c: u64) -> usize
         return 0;
     }
     1
-}
-
-// Whether the set at word i is the one at word h of `others`; both use k words of w.
-fn equal(words: &[u64], i: usize, others: &[u64], h: usize, w: usize, k: usize) -> bool
-    requires { ⌜ (i + w ≤ length (now words)) × (h + w ≤ length (now others)) × (k ≤ w)
-        × (num (words-at (now words) i w) < 2 ^ (64 * k)) × (num (words-at (now others) h w) < 2 ^ (64 * k)) ⌝ }
-    ensures { λ r. ⌜ r ≡ eqb (num (words-at (now (words .entry)) i w)) (num (words-at (now (others .entry)) h w)) ⌝ }
-{
-    match words::sets::compare_plain(words, i, others, h, k) {
-        Order::Same => true,
-        Order::More => false,
-        Order::Less => false,
-    }
 }
 
 // Where the new term at word `from` of scratch goes among n terms.

@@ -5,6 +5,7 @@ use Prim.Native.Nat.{ℕ, zero, suc, _<_}
 use native.Mathlib.Omega.{arith}
 use lib.ListN.{length, getD, take, drop}
 use Rattle.rules.specs.Polynomial.{Polynomial, Below, Coefficients}
+use Rattle.rules.proofs.Terms.{weaken}
 use Rattle.weave.specs.Merging.{floor}
 
 -- the front of a falling list falls
@@ -30,6 +31,12 @@ unfolding floor
 floor-above b s [] l h = absurd (omega arith)
 floor-above b s (x ∷ []) l h = h 0 (omega arith)
 floor-above b s (x ∷ y ∷ p) l h = floor-above (x .1) s (y ∷ p) (omega arith) (λ i d. h (suc i) (omega arith))
+
+-- what is left of a falling list falls
+pub below-drop : (b i : ℕ) (p : Polynomial) → Below b p → Below b (drop i p)
+below-drop b zero p h = h
+below-drop b (suc i) [] h = tt
+below-drop b (suc i) (x ∷ p) h = weaken (x .1) b (drop i p) (omega (arith, h .0)) (below-drop (x .1) i p (h .1))
 
 -- a coefficient of a list of them
 pub coefficients-at : (m i : ℕ) (p : Polynomial) → Coefficients m p → i < length p → (0 < getD p i (0, 0) .0) × (getD p i (0, 0) .0 < m)

@@ -8,13 +8,11 @@ use native.Mathlib.Omega.{arith}
 use lib.Dec.{eqb}
 use lib.ListN.{length, getD, take, drop, length-append, length-take, length-drop}
 use lib.Seq.{drop-drop, drop-at, getD-drop, length-take-le}
-use borrow.Author.Tests.{lt-ltb, eq-eqb, ne-eqb}
+use borrow.Author.Tests.{lt-ltb}
 use Rattle.rules.specs.Polynomial.{Term}
-use Rattle.words.specs.Numbers.{num, words-at, order-of}
+use Rattle.words.specs.Numbers.{num, words-at}
 use Rattle.words.specs.Stored.{term-at, decoded}
-use Rattle.words.specs.declared.sets.Order.{Order}
-use Rattle.words.specs.declared.sets.Order.the-variants.{Less, Same, More}
-use Rattle.words.proofs.Numbers.{Said, length-words-at, read-short}
+use Rattle.words.proofs.Numbers.{length-words-at}
 use Rattle.words.proofs.Stored.{length-decoded, decoded-at, decoded-stretch, stride-in, stride-le}
 use Rattle.weave.specs.Seeking.{Stop, Sought}
 use Rattle.weave.specs.Weaving.{old-terms, new-terms, Task, Midway, Head, Stretch, Turned, meeting}
@@ -87,32 +85,15 @@ module _ (z : Sizes) (store scratch : List ℕ) (t : Task z store scratch) where
   pub old-coefficient : (i : ℕ) → i < z .n → getD (old-terms z store) i (0, 0) .0 ≡ getD store (i * (z .w + 1)) 0
   old-coefficient i l = ap (λ (x : Term). x .0) (decoded-at (z .w) (z .n) i store l)
 
-  old-low : (i : ℕ) → i < z .n → num (words-at store (i * (z .w + 1) + 1) (z .w)) < 2 ^ (64 * z .k)
+  -- and of its set
+  pub old-low : (i : ℕ) → i < z .n → num (words-at store (i * (z .w + 1) + 1) (z .w)) < 2 ^ (64 * z .k)
   old-low i l = rw (decoded-set (z .w) (z .n) i store l) at (set-below (2 ^ (64 * z .k)) (old-terms z store) i (t .falls) (omega (arith, length-decoded (z .w) (z .n) store)))
 
-  -- whether the two next terms meet, by the order of the words that they use
+  -- whether the two next terms meet, by their words
   module _ (k : Place) (l : k .at < k .stop) (h : k .stop ≤ z .n) (u : k .used < z .made) where
-    meeting-words : meeting (old-terms z store) (new-terms z scratch) k ≡ eqb (num (words-at store (k .at * (z .w + 1) + 1) (z .w))) (num (words-at scratch ((z .limit + k .used) * (z .w + 1) + 1) (z .w)))
+    pub meeting-words : meeting (old-terms z store) (new-terms z scratch) k ≡ eqb (num (words-at store (k .at * (z .w + 1) + 1) (z .w))) (num (words-at scratch ((z .limit + k .used) * (z .w + 1) + 1) (z .w)))
     unfolding meeting
     meeting-words = rw (lt-ltb (k .at) (k .stop) l, decoded-set (z .w) (z .n) (k .at) store (omega arith), new-set (k .used) u)
-
-    words-say : (o : Order) → order-of (num (words-at store (k .at * (z .w + 1) + 1) (z .k))) (num (words-at scratch ((z .limit + k .used) * (z .w + 1) + 1) (z .k))) ≡ o → Said (num (words-at store (k .at * (z .w + 1) + 1) (z .w))) (num (words-at scratch ((z .limit + k .used) * (z .w + 1) + 1) (z .w))) o
-    words-say o e =
-        let i : k .at < z .n = omega arith in
-        read-short store scratch (k .at * (z .w + 1) + 1) ((z .limit + k .used) * (z .w + 1) + 1) (z .w) (z .k) o (omega (arith, old-room (k .at) i)) (omega (arith, new-room (k .used) u)) (t .short) (old-low (k .at) i) (new-low (k .used) u) e
-
-    pub meeting-same : order-of (num (words-at store (k .at * (z .w + 1) + 1) (z .k))) (num (words-at scratch ((z .limit + k .used) * (z .w + 1) + 1) (z .k))) ≡ Same → meeting (old-terms z store) (new-terms z scratch) k ≡ true
-    meeting-same e = meeting-words ∙ eq-eqb (num (words-at store (k .at * (z .w + 1) + 1) (z .w))) (num (words-at scratch ((z .limit + k .used) * (z .w + 1) + 1) (z .w))) (words-say Same e)
-
-    pub meeting-more : order-of (num (words-at store (k .at * (z .w + 1) + 1) (z .k))) (num (words-at scratch ((z .limit + k .used) * (z .w + 1) + 1) (z .k))) ≡ More → meeting (old-terms z store) (new-terms z scratch) k ≡ false
-    meeting-more e =
-        let o = words-say More e in
-        meeting-words ∙ ne-eqb (num (words-at store (k .at * (z .w + 1) + 1) (z .w))) (num (words-at scratch ((z .limit + k .used) * (z .w + 1) + 1) (z .w))) (λ d. omega arith)
-
-    pub meeting-less : order-of (num (words-at store (k .at * (z .w + 1) + 1) (z .k))) (num (words-at scratch ((z .limit + k .used) * (z .w + 1) + 1) (z .k))) ≡ Less → meeting (old-terms z store) (new-terms z scratch) k ≡ false
-    meeting-less e =
-        let o = words-say Less e in
-        meeting-words ∙ ne-eqb (num (words-at store (k .at * (z .w + 1) + 1) (z .w))) (num (words-at scratch ((z .limit + k .used) * (z .w + 1) + 1) (z .w))) (λ d. omega arith)
 
   -- what the search up to the next new term asks
   pub sought : (k : Place) → k .at ≤ k .stop → k .stop ≤ z .n → k .used < z .made

@@ -2,7 +2,7 @@
 use words::sets::Order;
 ghost use mathlib.Core.Path.{_≡_};
 ghost use Prim.Native.Nat.{_+_, _*_, _^_, _<_, _≤_};
-ghost use lib.Dec.{ltb};
+ghost use lib.Dec.{ltb, eqb};
 ghost use lib.ListN.{length};
 ghost use Rattle.rules.specs.Polynomial.{Below};
 ghost use Rattle.words.specs.Numbers.{num, words-at};
@@ -114,6 +114,19 @@ fn over(store: &[u64], w: usize, k: usize, i: usize, others: &[u64], t: usize) -
     match words::sets::compare_plain(store, i * (w + 1) + 1, others, t, k) {
         Order::More => true,
         Order::Same => false,
+        Order::Less => false,
+    }
+}
+
+// Whether the set at word i is the one at word h of `others`; both use k words of w.
+pub fn equal(words: &[u64], i: usize, others: &[u64], h: usize, w: usize, k: usize) -> bool
+    requires { ⌜ (i + w ≤ length (now words)) × (h + w ≤ length (now others)) × (k ≤ w)
+        × (num (words-at (now words) i w) < 2 ^ (64 * k)) × (num (words-at (now others) h w) < 2 ^ (64 * k)) ⌝ }
+    ensures { λ r. ⌜ r ≡ eqb (num (words-at (now (words .entry)) i w)) (num (words-at (now (others .entry)) h w)) ⌝ }
+{
+    match words::sets::compare_plain(words, i, others, h, k) {
+        Order::Same => true,
+        Order::More => false,
         Order::Less => false,
     }
 }

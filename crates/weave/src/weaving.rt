@@ -2,9 +2,9 @@
 // stand in scratch behind room for as many terms as the limit allows. Between two new terms, the store's are copied in one go; those
 // behind the last new term and the last one that holds v stay where they are.
 use crate::seeking::above;
+use crate::seeking::equal;
 use crate::seeking::holding;
 use words::coefficients::sum;
-use words::sets::Order;
 ghost use mathlib.Core.Path.{_≡_};
 ghost use mathlib.Core.Bool.{true};
 ghost use mathlib.Core.List.{_++_};
@@ -68,11 +68,7 @@ fn meets(store: &[u64], z: Sizes, scratch: &[u64], p: Place) -> bool
         return false;
     }
     let h = (z.limit + p.used) * (z.w + 1) + 1;
-    match words::sets::compare_plain(store, p.at * (z.w + 1) + 1, scratch, h, z.k) {
-        Order::Same => true,
-        Order::More => false,
-        Order::Less => false,
-    }
+    equal(store, p.at * (z.w + 1) + 1, scratch, h, z.w, z.k)
 }
 
 // The next new term, with the store's next one where that has its set; none of the others is above it.

@@ -6,7 +6,7 @@ use native.Mathlib.Nat.{sub-zero, zero-mul, suc-mul, mul-assoc, mod-eq-of-lt, mo
 use native.Mathlib.Omega.{arith}
 use lib.ListN.{length, getD, take, drop, replicate, length-append, length-replicate, length-drop, take-append-drop}
 use lib.Pow.{high, low, shr-shr, mod-pow-add, pow-add}
-use lib.Seq.{ext-getD, take-at, drop-at, getD-drop, take-add, length-take-le}
+use lib.Seq.{ext-getD, take-at, drop-at, drop-drop, getD-drop, take-add, length-take-le}
 use Rattle.rules.specs.Each.{listed}
 use Rattle.rules.specs.Judging.{term-words, polynomial-words, padded}
 use Rattle.rules.specs.Polynomial.{Polynomial, Under}
@@ -89,6 +89,13 @@ pub drop-zeros : (i n : ℕ) → drop {A = ℕ} i (replicate n 0) ≡ replicate 
 drop-zeros zero n = rw (sub-zero)
 drop-zeros (suc i) zero = let e : 0 - suc i ≡ 0 = omega arith in rw e
 drop-zeros (suc i) (suc n) = let e : suc n - suc i ≡ n - i = omega arith in rw e (drop-zeros i n)
+
+-- zeros, seen from further behind
+pub zeros-later : (a b : ℕ) (s : List ℕ) → a ≤ b → drop a s ≡ replicate (length s - a) 0 → drop b s ≡ replicate (length s - b) 0
+zeros-later a b s h z =
+    let q : a + (b - a) ≡ b = omega arith in
+    let n : length s - a - (b - a) ≡ length s - b = omega arith in
+    sym (drop-drop (b - a) a s ∙ rw q) ∙ ap (λ (x : List ℕ). drop (b - a) x) z ∙ drop-zeros (b - a) (length s - a) ∙ rw n
 
 -- words with zeros behind them are as long as what was lent
 pub length-padded : (lent : ℕ) (words : List ℕ) → length words ≤ lent → length (padded lent words) ≡ lent

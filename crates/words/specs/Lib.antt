@@ -1,3 +1,4 @@
 -- The specifications of words.
 pub mod Numbers
 pub mod Stored
+pub mod Stretches

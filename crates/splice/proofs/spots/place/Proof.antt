@@ -7,7 +7,7 @@ use Rattle.splice.proofs.spots.place.Statement.{statement}
 use Rattle.splice.proofs.spots.place.Tie as tie
 use Rattle.splice.proofs.spots.place.Reads as reads
 use Rattle.splice.proofs.spots.place.Lts as lts
-use Rattle.splice.proofs.spots.equal.Reads as equal-reads
+use Rattle.weave.proofs.seeking.equal.Reads as equal-reads
 use Rattle.weave.proofs.seeking.above.Reads as above-reads
 use Rattle.words.proofs.coefficients.sum.Reads as sum-reads
 

@@ -2,17 +2,16 @@
 use mathlib.Core.Path.{sym, _∙_}
 use native.Mathlib.Omega.{arith}
 use Rattle.weave.proofs.States.{meeting-none}
-use Rattle.weave.proofs.Turns.{old-room, new-room, meeting-same, meeting-more, meeting-less}
+use Rattle.weave.proofs.Turns.{old-room, old-low, new-room, new-low, meeting-words}
 use borrow.Author.Needs.{needs}
 use Rattle.weave.proofs.weaving.meets.Statement.{statement}
 use Rattle.weave.proofs.weaving.meets.Tie as tie
 use Rattle.weave.proofs.weaving.meets.Reads as reads
 use Rattle.weave.proofs.weaving.meets.Lts as lts
-use Rattle.words.proofs.sets.compare_plain.Reads as compare-plain-reads
+use Rattle.weave.proofs.seeking.equal.Reads as equal-reads
 
 returns : tie.Need-returns
-returns c =
-    sym (meeting-none _ _ _ (c .if1 .taken))
+returns c = sym (meeting-none _ _ _ (c .if1 .taken))
 
 add-h : tie.Need-add-h
 add-h c = search needs
@@ -32,55 +31,32 @@ add-h-3 c =
     let p = c .before .before .before .before .before .before .before .pre in
     omega (arith, new-room (a .z) (a .store .now) (a .scratch .now) (p .0) (a .p .used) (p .2))
 
-add-compare-plain : tie.Need-add-compare-plain
-add-compare-plain c = search needs
+add-equal : tie.Need-add-equal
+add-equal c = search needs
 
-mul-compare-plain : tie.Need-mul-compare-plain
-mul-compare-plain c =
+mul-equal : tie.Need-mul-equal
+mul-equal c =
     let a = c .before .before .before .before .before .before .before .before .before .args in
     let p = c .before .before .before .before .before .before .before .before .before .pre in
     omega (arith, old-room (a .z) (a .store .now) (a .scratch .now) (p .0) (a .p .at) (omega (arith, c .before .before .before .before .before .if1 .left, p .1)))
 
-add-compare-plain-2 : tie.Need-add-compare-plain-2
-add-compare-plain-2 c =
+add-equal-2 : tie.Need-add-equal-2
+add-equal-2 c =
     let a = c .before .before .before .before .before .before .before .before .before .args in
     let p = c .before .before .before .before .before .before .before .before .before .pre in
     omega (arith, old-room (a .z) (a .store .now) (a .scratch .now) (p .0) (a .p .at) (omega (arith, c .before .before .before .before .before .if1 .left, p .1)))
 
-compare-plain-requires : tie.Need-compare-plain-requires
-compare-plain-requires c κs =
+equal-requires : tie.Need-equal-requires
+equal-requires c κs =
     let a = c .before .before .before .before .before .before .before .before .before .args in
     let p = c .before .before .before .before .before .before .before .before .before .pre in
-    let r = old-room (a .z) (a .store .now) (a .scratch .now) (p .0) (a .p .at) (omega (arith, c .before .before .before .before .before .if1 .left, p .1)) in
-    let s = new-room (a .z) (a .store .now) (a .scratch .now) (p .0) (a .p .used) (p .2) in
-    (omega (arith, r, p .0 .short), omega (arith, s, p .0 .short))
-
-enum-told : tie.Need-enum-told
-enum-told c = search needs
-
-enum-told-2 : tie.Need-enum-told-2
-enum-told-2 c = search needs
-
-enum-told-3 : tie.Need-enum-told-3
-enum-told-3 c = search needs
+    (omega (arith, old-room (a .z) (a .store .now) (a .scratch .now) (p .0) (a .p .at) (omega (arith, c .before .before .before .before .before .if1 .left, p .1))), omega (arith, new-room (a .z) (a .store .now) (a .scratch .now) (p .0) (a .p .used) (p .2)), p .0 .short, old-low (a .z) (a .store .now) (a .scratch .now) (p .0) (a .p .at) (omega (arith, c .before .before .before .before .before .if1 .left, p .1)), new-low (a .z) (a .store .now) (a .scratch .now) (p .0) (a .p .used) (p .2))
 
 returns-2 : tie.Need-returns-2
 returns-2 c =
-    let a = c .before .before .before .before .before .before .before .before .before .before .before .before .args in
-    let p = c .before .before .before .before .before .before .before .before .before .before .before .before .pre in
-    sym (meeting-same (a .z) (a .store .now) (a .scratch .now) (p .0) (a .p) (c .before .before .before .before .before .before .before .before .if1 .left) (p .1) (p .2) (sym (c .before .before .compare-plain .ensures) ∙ c .enum-told .given .1))
-
-returns-3 : tie.Need-returns-3
-returns-3 c =
-    let a = c .before .before .before .before .before .before .before .before .before .before .before .before .args in
-    let p = c .before .before .before .before .before .before .before .before .before .before .before .before .pre in
-    sym (meeting-more (a .z) (a .store .now) (a .scratch .now) (p .0) (a .p) (c .before .before .before .before .before .before .before .before .if1 .left) (p .1) (p .2) (sym (c .before .before .compare-plain .ensures) ∙ c .enum-told2 .given .1))
-
-returns-4 : tie.Need-returns-4
-returns-4 c =
-    let a = c .before .before .before .before .before .before .before .before .before .before .before .before .args in
-    let p = c .before .before .before .before .before .before .before .before .before .before .before .before .pre in
-    sym (meeting-less (a .z) (a .store .now) (a .scratch .now) (p .0) (a .p) (c .before .before .before .before .before .before .before .before .if1 .left) (p .1) (p .2) (sym (c .before .before .compare-plain .ensures) ∙ c .enum-told3 .given .1))
+    let a = c .before .before .before .before .before .before .before .before .before .before .args in
+    let p = c .before .before .before .before .before .before .before .before .before .before .pre in
+    c .equal .ensures ∙ sym (meeting-words (a .z) (a .store .now) (a .scratch .now) (p .0) (a .p) (c .before .before .before .before .before .before .if1 .left) (p .1) (p .2))
 
 pub meets-spec : {M : Type 1} → statement M
 meets-spec =
@@ -91,13 +67,8 @@ meets-spec =
     add-h-2
     mul-h
     add-h-3
-    add-compare-plain
-    mul-compare-plain
-    add-compare-plain-2
-    compare-plain-requires
-    enum-told
-    enum-told-2
-    enum-told-3
-    returns-2
-    returns-3
-    returns-4)
+    add-equal
+    mul-equal
+    add-equal-2
+    equal-requires
+    returns-2)

@@ -6,10 +6,10 @@ use borrow.Author.Tests.{eq-eqb, ne-eqb}
 use Rattle.words.specs.Numbers.{num, words-at}
 use Rattle.words.specs.declared.sets.Order.the-variants.{Less, Same, More}
 use Rattle.words.proofs.Numbers.{read-short}
-use Rattle.splice.proofs.spots.equal.Statement.{statement}
-use Rattle.splice.proofs.spots.equal.Tie as tie
-use Rattle.splice.proofs.spots.equal.Reads as reads
-use Rattle.splice.proofs.spots.equal.Lts as lts
+use Rattle.weave.proofs.seeking.equal.Statement.{statement}
+use Rattle.weave.proofs.seeking.equal.Tie as tie
+use Rattle.weave.proofs.seeking.equal.Reads as reads
+use Rattle.weave.proofs.seeking.equal.Lts as lts
 use Rattle.words.proofs.sets.compare_plain.Reads as compare-plain-reads
 
 compare-plain-requires : tie.Need-compare-plain-requires

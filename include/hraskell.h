@@ -13,9 +13,15 @@
  * anything, and what is wrong is refused. A refusal changes no lent word.
  *
  * The numbers of document 01 are used throughout. A text is ASCII AIGER. A
- * table is 32-bit words: the O outputs, then rhs0 and rhs1 for each gate,
- * O + 2A words; words past these may be there and are neither read nor
- * written.
+ * table is 32-bit words: the O outputs, then a record for each gate or cell.
+ * Its records are of one kind, which the caller names by a number:
+ *   - AND gates, 0: two words, rhs0 and rhs1; O + 2A words in all.
+ *   - Lookup cells, any other number: four words, byte, x1, x2, x3; O + 4A
+ *     words in all. The cell's value is bit x1 + 2 x2 + 4 x3 of the byte. The
+ *     byte is at most 255, a variable is below the cell's own, and variable 0
+ *     is the constant false. Outputs are literals all the same.
+ * Words past these may be there and are neither read nor written. Where it
+ * says gate below, a cell is meant too.
  */
 #ifndef HRASKELL_H
 #define HRASKELL_H
@@ -39,12 +45,12 @@ extern "C" {
 /* Refusals: 100 plus the number of document 01. */
 #define HRASKELL_REFUSED_HEADER 101u      /* header line malformed or cut short */
 #define HRASKELL_REFUSED_COUNTS 102u      /* a count outside its limits */
-#define HRASKELL_REFUSED_TABLE_SHORT 103u /* table shorter than O + 2A */
+#define HRASKELL_REFUSED_TABLE_SHORT 103u /* table shorter than O + 2A, or O + 4A for cells */
 #define HRASKELL_REFUSED_INPUT_LINE 104u  /* input line wrong */
 #define HRASKELL_REFUSED_OUTPUT_LINE 105u /* output line wrong */
 #define HRASKELL_REFUSED_GATE_LINE 106u   /* gate line wrong */
 #define HRASKELL_REFUSED_BYTES_AFTER 107u /* bytes after the last gate line */
-#define HRASKELL_REFUSED_UNSOUND 108u     /* an output or gate of the table breaks the literal rules */
+#define HRASKELL_REFUSED_UNSOUND 108u     /* an output or record of the table breaks its rules */
 #define HRASKELL_REFUSED_KIND 109u        /* kind unknown, or O is not l */
 #define HRASKELL_REFUSED_LIMIT 110u       /* T outside 128..16,384 */
 #define HRASKELL_REFUSED_ORDER 111u       /* order too long, or names something that is no gate */
@@ -55,8 +61,13 @@ extern "C" {
 #define HRASKELL_SIGNED 1u    /* s: 2n outputs, both operands two's complement */
 #define HRASKELL_TRUNCATED 2u /* t: n outputs, the product modulo 2^n */
 
+/* Kinds of record. Every number but 0 names cells. */
+#define HRASKELL_GATES 0u /* AND gates */
+#define HRASKELL_CELLS 1u /* lookup cells */
+
 /* Limits and least lengths. */
-#define HRASKELL_TABLE_WORDS_MOST 2106u /* no netlist needs a longer table */
+#define HRASKELL_TABLE_WORDS_MOST 2106u      /* no netlist of gates needs a longer table */
+#define HRASKELL_CELL_TABLE_WORDS_MOST 4148u /* no netlist of cells needs a longer table */
 #define HRASKELL_COUNT_WORDS 5u
 #define HRASKELL_ANSWER_WORDS 6u
 #define HRASKELL_TERMS_LEAST 128u
@@ -65,12 +76,13 @@ extern "C" {
 
 /* W + 1: the 64-bit words of one term, for a netlist of M variables. */
 #define HRASKELL_TERM_WORDS(m) ((size_t)(m) / 64u + 2u)
-/* The least words of store and scratch, for M variables and the term limit T. */
+/* The least words of store and scratch, for M variables and the term limit T. Cells need more scratch than gates. */
 #define HRASKELL_STORE_WORDS(m, t) ((size_t)(t) * HRASKELL_TERM_WORDS(m))
 #define HRASKELL_SCRATCH_WORDS(m, t) (4u * HRASKELL_STORE_WORDS(m, t))
+#define HRASKELL_CELL_SCRATCH_WORDS(m, t) (8u * HRASKELL_STORE_WORDS(m, t))
 
 /*
- * Reads a netlist text.
+ * Reads a netlist text. It makes tables of AND gates only.
  *
  *   text    lent for reading: text_length bytes, with no end mark
  *   table   lent for writing: at least O + 2A words, else refused 103
@@ -89,7 +101,8 @@ uint32_t hraskell_read(
  * Evaluates a netlist at one operand pair.
  *
  *   m, i, l, o, a  the counts M, I, L, O, A
- *   table          lent for reading: at least O + 2A words, else refused 103
+ *   table          lent for reading: at least O + 2A words, or O + 4A for cells, else refused 103
+ *   cells          0 for a table of AND gates, any other number for one of lookup cells
  *   x, y           the operands a and b; bits from n = I/2 up are treated as absent
  *   word           lent for writing: at least 1 word, else refused 112, checked first
  *
@@ -99,7 +112,7 @@ uint32_t hraskell_read(
  */
 uint32_t hraskell_evaluate(
     uint32_t m, uint32_t i, uint32_t l, uint32_t o, uint32_t a,
-    const uint32_t *table, size_t table_length,
+    const uint32_t *table, size_t table_length, uint32_t cells,
     uint64_t x, uint64_t y,
     uint64_t *word, size_t word_length);
 
@@ -113,12 +126,13 @@ struct hraskell_step {
  * Judges a netlist under a kind.
  *
  *   m, i, l, o, a  the counts M, I, L, O, A
- *   table          lent for reading: at least O + 2A words, else refused 103
+ *   table          lent for reading: at least O + 2A words, or O + 4A for cells, else refused 103
+ *   cells          0 for a table of AND gates, any other number for one of lookup cells
  *   kind           HRASKELL_PLAIN, HRASKELL_SIGNED or HRASKELL_TRUNCATED
  *   limit          T, the most terms that are held: 128 to 16,384
  *   order          lent for reading: 0 to 4,096 gate variables, one for each step
  *   store          lent for writing: at least T(W + 1) words
- *   scratch        lent for writing: at least 4T(W + 1) words
+ *   scratch        lent for writing: at least 4T(W + 1) words, or 8T(W + 1) for cells
  *   log            lent for writing, the step log: at least one record for each step of the order
  *   answer         lent for writing: at least 6 words, else refused 112, checked first
  *
@@ -139,7 +153,7 @@ struct hraskell_step {
  */
 uint32_t hraskell_judge(
     uint32_t m, uint32_t i, uint32_t l, uint32_t o, uint32_t a,
-    const uint32_t *table, size_t table_length,
+    const uint32_t *table, size_t table_length, uint32_t cells,
     uint32_t kind, uint64_t limit,
     const uint32_t *order, size_t order_length,
     uint64_t *store, size_t store_length,

@@ -1,14 +1,16 @@
 //! The real blocks, and their run as a command.
 
+use crate::cells_file::read_cells;
 use crate::desk::{answer_line, TABLE_WORDS};
-use crate::judge::{Answer, Question, Run};
+use crate::judge::{Answer, Run};
 use crate::netlists::Made;
 use crate::orders;
 use crate::random::Random;
 use crate::reading::Reading;
+use crate::records::Records;
 use crate::rules::Rules;
 use crate::text::read;
-use std::path::Path;
+use std::path::{Path, PathBuf};
 
 /// A block with the reading and the operand bits that its name tells.
 #[derive(Clone, Debug)]
@@ -26,32 +28,93 @@ pub struct NamedOrder {
     pub steps: Vec<u32>,
 }
 
-/// All blocks that came with the package, by name.
+/// All blocks that came with the package and have a reading: those of gates, then those of cells.
 pub fn all() -> Vec<Block> {
-    let folder = Path::new(env!("CARGO_MANIFEST_DIR")).join("blocks");
-    let entries = std::fs::read_dir(&folder).expect("the folder of blocks");
+    [of_gates(), of_cells()].concat()
+}
+
+/// The blocks of AND gates, by name.
+pub fn of_gates() -> Vec<Block> {
+    blocks_in("", ".aag", gates_of)
+}
+
+/// The blocks of lookup cells, by name.
+pub fn of_cells() -> Vec<Block> {
+    blocks_in("lut", CELLS_ENDING, cells_of)
+}
+
+/// The tables of lookup cells that multiply and add, by name; no reading is theirs.
+pub fn of_adding_cells() -> Vec<(String, Made)> {
+    let folder = folder().join("lut");
+    let mut files = names_in(&folder, CELLS_ENDING);
+    files.retain(|file| mark_of(file).starts_with('m'));
+    files
+        .into_iter()
+        .map(|file| (mark_of(&file).to_string(), cells_of(&bytes(&folder, &file))))
+        .collect()
+}
+
+/// How the name of a file with a table of lookup cells ends.
+pub const CELLS_ENDING: &str = ".cells";
+
+fn folder() -> PathBuf {
+    Path::new(env!("CARGO_MANIFEST_DIR")).join("blocks")
+}
+
+fn names_in(folder: &Path, ending: &str) -> Vec<String> {
+    let entries = std::fs::read_dir(folder).expect("the folder of blocks");
     let mut names: Vec<String> = entries
         .map(|entry| entry.expect("a folder entry").file_name())
         .map(|name| name.to_string_lossy().into_owned())
-        .filter(|name| name.ends_with(".aag"))
+        .filter(|name| name.ends_with(ending))
         .collect();
     names.sort();
-    names.iter().map(|name| block(&folder, name)).collect()
+    names
 }
 
-fn block(folder: &Path, file: &str) -> Block {
-    let name = file.trim_end_matches(".aag");
-    let mark = name.rsplit('-').next().expect("a last part");
-    let text = std::fs::read(folder.join(file)).expect("a block's text");
-    let mut table = vec![0; TABLE_WORDS];
-    let counts = read(&text, &mut table).expect("a sound block");
-    table.truncate(counts.table_words() as usize);
-    Block {
-        name: name.to_string(),
-        reading: Reading::of_letter(mark.as_bytes()[0]).expect("a reading's letter"),
-        n: mark[1..].parse().expect("the operand bits"),
-        made: Made { counts, table },
+fn bytes(folder: &Path, file: &str) -> Vec<u8> {
+    std::fs::read(folder.join(file)).expect("a block's text")
+}
+
+/// The last part of a block's name, which tells its reading and its operand bits.
+fn mark_of(file: &str) -> &str {
+    let name = file.split('.').next().expect("a name");
+    name.rsplit('-').next().expect("a last part")
+}
+
+/// The blocks of a folder whose mark begins with the letter of a reading.
+fn blocks_in(folder_name: &str, ending: &str, table_of: fn(&[u8]) -> Made) -> Vec<Block> {
+    let folder = folder().join(folder_name);
+    let mut blocks = Vec::new();
+    for file in names_in(&folder, ending) {
+        let mark = mark_of(&file);
+        if let Some(reading) = Reading::of_letter(mark.as_bytes()[0]) {
+            blocks.push(Block {
+                name: file.trim_end_matches(ending).to_string(),
+                reading,
+                n: mark[1..].parse().expect("the operand bits"),
+                made: table_of(&bytes(&folder, &file)),
+            });
+        }
     }
+    blocks
+}
+
+fn gates_of(text: &[u8]) -> Made {
+    let mut table = vec![0; TABLE_WORDS];
+    let counts = read(text, &mut table).expect("a sound block");
+    let records = Records::Gates;
+    table.truncate(counts.table_words(records) as usize);
+    Made {
+        counts,
+        records,
+        table,
+    }
+}
+
+fn cells_of(text: &[u8]) -> Made {
+    let text = std::str::from_utf8(text).expect("a text of ASCII");
+    read_cells(text).expect("a table of cells")
 }
 
 /// The order M down to I + 1, and an honest and a shuffled one for each seed.
@@ -89,9 +152,7 @@ pub fn thrifty_order(block: &Block, limit: u64) -> NamedOrder {
 /// A run of the judge on a block under its own reading, or the number of refusal.
 pub fn run(block: &Block, limit: u64, order: &[u32]) -> Result<Run, u32> {
     let rules = Rules::of_document();
-    let Made { counts, table } = &block.made;
-    let kind = block.reading.kind();
-    let question = Question::checked(&rules, *counts, table, kind, limit, order)?;
+    let question = block.made.question(block.reading.kind(), limit, order)?;
     Ok(question.run(&rules))
 }
 

@@ -1,6 +1,7 @@
 //! The verdict a second time, by trying all operand pairs.
 
 use crate::reading::Reading;
+use crate::records::Records;
 use crate::rules::{self, Rules};
 use crate::table::{Counts, Netlist};
 
@@ -22,11 +23,12 @@ pub const MOST_INPUTS: u32 = 16;
 pub fn least_wrong_pair(
     counts: Counts,
     table: &[u32],
+    records: Records,
     kind: u32,
 ) -> Result<Option<WrongPair>, u32> {
     let rules = Rules::of_document();
-    let netlist = Netlist::of(&rules, counts, table)?;
-    netlist.soundness(&rules.table)?;
+    let netlist = Netlist::of(&rules, counts, table, records)?;
+    netlist.soundness(&rules)?;
     let reading = Reading::of_kind(&rules.judging, kind)
         .filter(|reading| reading.outputs(counts.n()) == counts.o)
         .ok_or(rules::KIND)?;
@@ -47,7 +49,7 @@ fn wrong_pair_at(
 ) -> Option<WrongPair> {
     let n = netlist.counts.n();
     let (a, b) = (bits % (1 << n), bits >> n);
-    let got = netlist.word(&rules.table, &netlist.values(&rules.table, a, b));
+    let got = netlist.word(&rules.table, &netlist.values(rules, a, b));
     let wanted = reading.wanted(n, a, b);
     (got != wanted).then_some(WrongPair { a, b, got, wanted })
 }

@@ -3,6 +3,7 @@
 use crate::judge::{judge_by, Answer};
 use crate::orders;
 use crate::reading::Reading;
+use crate::records::Records;
 use crate::rules::{self, DeskRules, Rules};
 use crate::table::Counts;
 use crate::text::read_by;
@@ -74,11 +75,12 @@ fn answer_of(rules: &Rules, counts: Counts, table: &[u32], reading: Reading) -> 
     let words = rules.desk.limit as usize * counts.term_words();
     let lent = Lent {
         store: &mut vec![0; words],
-        scratch: &mut vec![0; 4 * words],
+        scratch: &mut vec![0; Records::Gates.most_made() * words],
         log: &mut vec![Step::default(); order.len()],
     };
     let kind = reading.kind();
-    judge_by(rules, counts, table, kind, rules.desk.limit, &order, lent)
+    let (records, limit) = (Records::Gates, rules.desk.limit);
+    judge_by(rules, counts, table, records, kind, limit, &order, lent)
 }
 
 /// An answer as the desk program prints it, without the line's end.

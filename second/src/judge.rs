@@ -2,6 +2,7 @@
 
 use crate::polynomial::Polynomial;
 use crate::reading::Reading;
+use crate::records::Records;
 use crate::rules::{self, JudgingRules, Rules};
 use crate::table::{Counts, Netlist};
 use crate::words::{self, Lent, Step};
@@ -52,12 +53,13 @@ impl<'a> Question<'a> {
         rules: &Rules,
         counts: Counts,
         table: &'a [u32],
+        records: Records,
         kind: u32,
         limit: u64,
         order: &'a [u32],
     ) -> Result<Question<'a>, u32> {
-        let netlist = Netlist::of(rules, counts, table)?;
-        let soundness = netlist.soundness(&rules.table);
+        let netlist = Netlist::of(rules, counts, table, records)?;
+        let soundness = netlist.soundness(rules);
         let reading = reading_of(&rules.judging, counts, kind);
         if rules.judging.soundness_comes_before_kind {
             soundness?;
@@ -88,7 +90,7 @@ impl<'a> Question<'a> {
         let mut held = start;
         let mut log = Vec::new();
         for &gate in self.order {
-            let next = held.step(gate, self.netlist.gate(gate));
+            let next = held.step(rules, gate, self.netlist.record(gate));
             let terms = next.count() as u32;
             if !self.has_room(&rules.judging, &next) {
                 let answer = Answer::OutOfRoom {
@@ -143,7 +145,7 @@ impl<'a> Question<'a> {
         }
         let n = self.netlist.counts.n();
         let (a, b) = wrong_pair(&rules.judging, last, n);
-        let values = self.netlist.values(&rules.table, a, b);
+        let values = self.netlist.values(rules, a, b);
         Answer::Differs {
             steps,
             terms,
@@ -224,6 +226,7 @@ fn wrong_pair(rules: &JudgingRules, last: &Polynomial, n: u32) -> (u64, u64) {
 pub fn judge(
     counts: Counts,
     table: &[u32],
+    records: Records,
     kind: u32,
     limit: u64,
     order: &[u32],
@@ -240,6 +243,7 @@ pub fn judge(
         &Rules::of_document(),
         counts,
         table,
+        records,
         kind,
         limit,
         order,
@@ -251,16 +255,17 @@ pub fn judge_by(
     rules: &Rules,
     counts: Counts,
     table: &[u32],
+    records: Records,
     kind: u32,
     limit: u64,
     order: &[u32],
     lent: Lent,
 ) -> Answer {
-    let question = match Question::checked(rules, counts, table, kind, limit, order) {
+    let question = match Question::checked(rules, counts, table, records, kind, limit, order) {
         Ok(question) => question,
         Err(number) => return Answer::Refused(number),
     };
-    if let Err(number) = lent.is_long_enough(&rules.judging, &question) {
+    if let Err(number) = lent.is_long_enough(rules, &question) {
         return Answer::Refused(number);
     }
     let run = question.run(rules);

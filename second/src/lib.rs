@@ -1,4 +1,5 @@
-//! A second judge of combinational multiplier netlists, written from document 01 and the decisions on its open points alone.
+//! A second judge of combinational multiplier netlists, written from documents 01 and 02 and the decisions on their open
+//! points alone.
 //!
 //! It is kept plain so that it can be believed by reading: a polynomial is an
 //! ordered map from sets of variables to coefficients, and every rule of the
@@ -7,6 +8,9 @@
 pub mod blocks;
 pub mod brute;
 pub mod cases;
+pub mod cell_netlists;
+pub mod cells;
+pub mod cells_file;
 pub mod desk;
 pub mod judge;
 mod mutants;
@@ -15,6 +19,7 @@ pub mod orders;
 pub mod polynomial;
 pub mod random;
 pub mod reading;
+pub mod records;
 pub mod rules;
 pub mod table;
 pub mod text;
@@ -23,6 +28,7 @@ pub mod words;
 pub use desk::{desk, desk_by};
 pub use judge::{judge, judge_by, Answer};
 pub use reading::wanted;
+pub use records::Records;
 pub use rules::Rules;
 pub use table::{evaluate, evaluate_by, Counts};
 pub use text::{read, read_by};

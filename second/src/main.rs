@@ -1,8 +1,11 @@
 //! The command `second`.
 
+use second::cells_file::read_cells;
 use second::desk::{answer_line, TABLE_WORDS};
-use second::{blocks, desk, evaluate, judge, orders, read};
-use second::{reading::Reading, Answer, Counts, Step};
+use second::netlists::Made;
+use second::rules::{CountRules, Rules};
+use second::{blocks, desk, judge, orders, read};
+use second::{reading::Reading, Answer, Records, Step};
 use std::io::{Read, Write};
 use std::process::ExitCode;
 
@@ -10,7 +13,10 @@ const USAGE: &str = "usage:
   second desk                                    judge what is on standard input, as the desk program does
   second judge [--steps] KIND T FILE [ORDERFILE] judge a netlist file; KIND is u, s or t
   second evaluate FILE A B                       the word the outputs show for an operand pair
-  second blocks [T] [SEEDS]                      run the larger real blocks";
+  second blocks [T] [SEEDS]                      run the larger real blocks
+a FILE whose name ends in .cells has a table of lookup cells";
+
+const LIMITS: CountRules = Rules::of_document().counts;
 
 /// Why a command could not be carried out.
 enum Trouble {
@@ -76,13 +82,12 @@ fn judge_command(
         _ => return Err(Trouble::Misuse),
     };
     let limit = number(limit)?;
-    let text = bytes_of(file)?;
+    let netlist = netlist_in(file)?;
     let given_order = order_file.map(order_in).transpose()?;
-    let mut table = vec![0; TABLE_WORDS];
-    let (answer, log) = match read(&text, &mut table) {
-        Ok(counts) => {
-            let order = given_order.unwrap_or_else(|| orders::falling(counts));
-            judged(counts, &table, reading, limit, &order)
+    let (answer, log) = match netlist {
+        Ok(made) => {
+            let order = given_order.unwrap_or_else(|| orders::falling(made.counts));
+            judged(&made, reading, limit, &order)
         }
         Err(number) => (Answer::Refused(number), Vec::new()),
     };
@@ -94,20 +99,16 @@ fn judge_command(
 }
 
 /// The answer, and the log of the steps completed.
-fn judged(
-    counts: Counts,
-    table: &[u32],
-    reading: Reading,
-    limit: u64,
-    order: &[u32],
-) -> (Answer, Vec<Step>) {
+fn judged(made: &Made, reading: Reading, limit: u64, order: &[u32]) -> (Answer, Vec<Step>) {
     // A limit that is too high is refused before the lent words are measured.
-    let words = limit.min(16_384) as usize * counts.term_words();
-    let (mut store, mut scratch) = (vec![0; words], vec![0; 4 * words]);
+    let words = limit.min(16_384) as usize * made.counts.term_words();
+    let mut store = vec![0; words];
+    let mut scratch = vec![0; made.records.most_made() * words];
     let mut log = vec![Step::default(); order.len()];
     let answer = judge(
-        counts,
-        table,
+        made.counts,
+        &made.table,
+        made.records,
         reading.kind(),
         limit,
         order,
@@ -131,14 +132,33 @@ fn steps_completed(answer: &Answer) -> usize {
 }
 
 fn evaluate_command(file: &str, a: u64, b: u64) -> Result<bool, Trouble> {
-    let text = bytes_of(file)?;
-    let mut table = vec![0; TABLE_WORDS];
-    let word = read(&text, &mut table).and_then(|counts| evaluate(counts, &table, a, b));
+    let word = netlist_in(file)?.and_then(|made| made.word_at(a, b));
     match word {
         Ok(word) => println!("{word}"),
         Err(number) => println!("{}", answer_line(&Answer::Refused(number))),
     }
     Ok(true)
+}
+
+/// The netlist of a file, or the number by which reading refuses its text.
+///
+/// A file of cells is no text of the product, so one that is malformed has no number.
+fn netlist_in(file: &str) -> Result<Result<Made, u32>, Trouble> {
+    let text = bytes_of(file)?;
+    if file.ends_with(blocks::CELLS_ENDING) {
+        let made = std::str::from_utf8(&text).ok().and_then(read_cells);
+        return match made {
+            // M is checked before a step is named for each variable up to it.
+            Some(made) => Ok(made.counts.within_limits(&LIMITS).map(|()| made)),
+            None => Err(Trouble::File(format!("{file}: no table of lookup cells"))),
+        };
+    }
+    let mut table = vec![0; TABLE_WORDS];
+    Ok(read(&text, &mut table).map(|counts| Made {
+        counts,
+        records: Records::Gates,
+        table,
+    }))
 }
 
 fn bytes_of(file: &str) -> Result<Vec<u8>, Trouble> {

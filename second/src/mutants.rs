@@ -12,6 +12,7 @@ impl Rules {
         let mut all = of_counts();
         all.extend(of_text());
         all.extend(of_table());
+        all.extend(of_cells());
         all.extend(of_checks());
         all.extend(of_polynomial());
         all.extend(of_lent_words());
@@ -77,6 +78,22 @@ fn of_table() -> Vec<Mutant> {
         bend("evaluate: gate inverters ignored", |r| r.table.gate_inverters_count = false),
         bend("evaluate: output inverters ignored", |r| r.table.output_inverters_count = false),
         bend("evaluate: literal 1 is false", |r| r.table.literal_1_is_true = false),
+    ]
+}
+
+#[rustfmt::skip]
+fn of_cells() -> Vec<Mutant> {
+    vec![
+        bend("evaluate, judge: a table of cells measured by O + 2A", |r| r.cells.record_has_four_words = false),
+        bend("evaluate, judge: byte 256 taken", |r| r.cells.most_byte = 256),
+        bend("evaluate, judge: byte 255 refused", |r| r.cells.most_byte = 254),
+        bend("evaluate, judge: cell may read itself", |r| r.cells.cell_reads_below_itself = false),
+        bend("evaluate, judge: x3 is the lowest bit of the index", |r| r.cells.first_variable_is_lowest = false),
+        bend("evaluate, judge: constant false is true", |r| r.cells.variable_0_is_false = false),
+        bend("judge: last coefficient of byte 150 is -4", |r| r.cells.last_of_parity_is_plus = false),
+        bend("judge: x times x not joined in a cell", |r| r.cells.squares_join = false),
+        bend("judge: a term of a cell that vanishes is kept", |r| r.cells.vanished_terms_go = false),
+        bend("judge: scratch of cells measured by 4T", |r| r.cells.scratch_is_eightfold = false),
     ]
 }
 

@@ -1,14 +1,18 @@
 //! Made netlists: random sound ones, right multipliers, and multipliers with one fault.
 
+use crate::cell_netlists::{cell_multiplier, change_cell, random_cells};
+use crate::judge::Question;
 use crate::random::Random;
 use crate::reading::Reading;
+use crate::records::{Record, Records};
 use crate::rules::Rules;
-use crate::table::{Counts, Netlist};
+use crate::table::{evaluate, Counts, Netlist};
 
 /// A netlist with its own table.
 #[derive(Clone, Debug, PartialEq, Eq)]
 pub struct Made {
     pub counts: Counts,
+    pub records: Records,
     pub table: Vec<u32>,
 }
 
@@ -26,14 +30,36 @@ impl Made {
             o: outputs.len() as u32,
             a,
         };
-        Made { counts, table }
+        Made {
+            counts,
+            records: Records::Gates,
+            table,
+        }
     }
 
     pub fn netlist(&self) -> Netlist<'_> {
-        Netlist::of(&Rules::of_document(), self.counts, &self.table).expect("a made netlist")
+        let rules = Rules::of_document();
+        Netlist::of(&rules, self.counts, &self.table, self.records).expect("a made netlist")
     }
 
-    /// The netlist text, also of a netlist that breaks the rules.
+    /// What the judge is asked of this netlist, by the document's rules, or the number of refusal.
+    pub fn question<'a>(
+        &'a self,
+        kind: u32,
+        limit: u64,
+        order: &'a [u32],
+    ) -> Result<Question<'a>, u32> {
+        let rules = Rules::of_document();
+        let (counts, records) = (self.counts, self.records);
+        Question::checked(&rules, counts, &self.table, records, kind, limit, order)
+    }
+
+    /// The word that the outputs show at one operand pair, by the document's rules.
+    pub fn word_at(&self, a: u64, b: u64) -> Result<u64, u32> {
+        evaluate(self.counts, &self.table, self.records, a, b)
+    }
+
+    /// The netlist text, also of a netlist that breaks the rules. Only gates have one.
     pub fn text(&self) -> Vec<u8> {
         let Counts { m, i, l, o, a } = self.counts;
         let mut text = format!("aag {m} {i} {l} {o} {a}\n");
@@ -48,6 +74,28 @@ impl Made {
             text += &format!("{} {} {}\n", 2 * gate, literals[0], literals[1]);
         }
         text.into_bytes()
+    }
+}
+
+/// A sound table of either kind with nothing in mind.
+pub fn random_records(
+    random: &mut Random,
+    records: Records,
+    inputs: u32,
+    outputs: u32,
+    count: u32,
+) -> Made {
+    match records {
+        Records::Gates => random_sound(random, inputs, outputs, count),
+        Records::Cells => random_cells(random, inputs, outputs, count),
+    }
+}
+
+/// A multiplier of either kind that is right under the reading.
+pub fn right_multiplier(random: &mut Random, records: Records, reading: Reading, n: u32) -> Made {
+    match records {
+        Records::Gates => multiplier(random, reading, n),
+        Records::Cells => cell_multiplier(random, reading, n),
     }
 }
 
@@ -66,23 +114,24 @@ pub fn random_sound(random: &mut Random, inputs: u32, outputs: u32, gates: u32) 
 }
 
 /// A sound netlist: mostly small, sometimes of any size, now and then with M 1,023. Of the larger ones some have I or O 64.
-pub fn random_size(random: &mut Random) -> Made {
+pub fn random_size(random: &mut Random, records: Records) -> Made {
     let inputs = (2 * (1 + random.below(40)) as u32).min(64);
     let outputs = (1 + random.below(80) as u32).min(64);
     match random.below(16) {
-        0 => random_sound(random, inputs, outputs, 1_023 - inputs),
+        0 => random_records(random, records, inputs, outputs, 1_023 - inputs),
         1..=4 => {
-            let gates = random.below(80) as u32;
-            random_sound(random, inputs, outputs, gates)
+            let count = random.below(80) as u32;
+            random_records(random, records, inputs, outputs, count)
         }
         _ => {
-            let gates = random.below(8) as u32;
-            random_sound(random, 2 + inputs % 6, 1 + outputs % 6, gates)
+            let count = random.below(8) as u32;
+            random_records(random, records, 2 + inputs % 6, 1 + outputs % 6, count)
         }
     }
 }
 
-fn literal_below(random: &mut Random, past: u32) -> u32 {
+/// A literal below this one, half of the time near it.
+pub fn literal_below(random: &mut Random, past: u32) -> u32 {
     let near = random.one_in(2);
     let span = if near { past.min(8) } else { past };
     past - 1 - random.below(span as usize) as u32
@@ -180,7 +229,7 @@ pub fn multiplier(random: &mut Random, reading: Reading, n: u32) -> Made {
 }
 
 /// An operand's l literals: a signed operand goes on with its top bit.
-fn operand(reading: Reading, first: u32, n: u32, l: usize) -> Vec<u32> {
+pub fn operand(reading: Reading, first: u32, n: u32, l: usize) -> Vec<u32> {
     (0..l as u32)
         .map(|bit| match reading {
             _ if bit < n => 2 * (first + bit),
@@ -199,11 +248,21 @@ pub fn with_fault(random: &mut Random, made: &Made) -> Made {
         faulty.table[at] = literal_below(random, 2 * made.counts.m + 2);
         return faulty;
     }
-    let place = (at - outputs) / 2;
-    let gate = made.counts.i + 1 + place as u32;
-    let kept = faulty.table[outputs + 2 * place + random.below(2)];
-    let other = literal_below(random, 2 * gate);
-    faulty.table[outputs + 2 * place] = kept.max(other);
-    faulty.table[outputs + 2 * place + 1] = kept.min(other);
+    let words = made.records.words();
+    let place = (at - outputs) / words;
+    let own = made.counts.i + 1 + place as u32;
+    let changed = match made.netlist().record(own) {
+        Record::Gate(rhs0, rhs1) => {
+            let kept = random.pick(&[rhs0, rhs1]);
+            let other = literal_below(random, 2 * own);
+            vec![kept.max(other), kept.min(other)]
+        }
+        Record::Cell(mut cell) => {
+            change_cell(random, &mut cell, own);
+            [&[cell.byte][..], &cell.variables].concat()
+        }
+    };
+    let first = outputs + words * place;
+    faulty.table[first..first + words].copy_from_slice(&changed);
     faulty
 }

@@ -54,15 +54,15 @@ pub fn honest(random: &mut Random, netlist: &Netlist) -> Vec<u32> {
 /// It is found by trying, so it is slow; where a random honest order runs out of room this one often does not.
 pub fn thrifty(netlist: &Netlist, reading: Reading, most_terms: usize) -> Vec<u32> {
     let mut readers = reader_counts(netlist);
-    let rules = Rules::of_document().judging;
-    let mut held = Polynomial::start(&rules, netlist, reading);
+    let rules = Rules::of_document();
+    let mut held = Polynomial::start(&rules.judging, netlist, reading);
     let mut left: BTreeSet<u32> = netlist.gates().collect();
     let mut order = Vec::new();
     while let Some((gate, next)) = left
         .iter()
         .rev()
         .filter(|&&gate| readers[gate as usize] == 0)
-        .map(|&gate| (gate, held.step(gate, netlist.gate(gate))))
+        .map(|&gate| (gate, held.step(&rules, gate, netlist.record(gate))))
         .min_by_key(|(_, next)| next.count())
     {
         order.push(gate);
@@ -104,10 +104,10 @@ fn reader_counts(netlist: &Netlist) -> Vec<u32> {
     readers
 }
 
-/// The gates among the two variables that a gate reads; one read twice is named twice.
+/// The gates or cells among the variables that one reads; one read twice is named twice.
 fn gates_read(netlist: &Netlist, gate: u32) -> Vec<u32> {
-    let (rhs0, rhs1) = netlist.gate(gate);
-    [rhs0 / 2, rhs1 / 2]
+    let variables = netlist.record(gate).variables();
+    variables
         .into_iter()
         .filter(|&variable| netlist.counts.is_gate(variable))
         .collect()

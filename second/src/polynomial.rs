@@ -1,7 +1,8 @@
 //! Polynomials over variables that are 0 or 1, with coefficients modulo 2^l.
 
 use crate::reading::{low_bits, Reading};
-use crate::rules::JudgingRules;
+use crate::records::{literal_parts, Record};
+use crate::rules::{JudgingRules, Rules};
 use crate::table::Netlist;
 use std::collections::BTreeMap;
 
@@ -12,14 +13,10 @@ use std::collections::BTreeMap;
 /// them has.
 pub type Set = Vec<u16>;
 
-/// The variables of a literal's terms, and whether the term is subtracted.
-type LiteralTerm = (Option<u16>, bool);
-
 #[derive(Clone, Debug, PartialEq, Eq)]
 pub struct Polynomial {
     terms: BTreeMap<Set, u64>,
     coefficient_bits: u64,
-    squares_join: bool,
     /// How many terms were put in before gathering.
     put_in: usize,
 }
@@ -33,7 +30,6 @@ impl Polynomial {
             } else {
                 64
             }),
-            squares_join: rules.squares_join,
             put_in: 0,
         }
     }
@@ -43,23 +39,27 @@ impl Polynomial {
         let n = netlist.counts.n();
         let mut start = Polynomial::zero(rules, reading.outputs(n));
         for (place, &literal) in (0..).zip(netlist.outputs()) {
-            for (variable, negative) in literal_terms(literal) {
-                start.add(variable.into_iter().collect(), power(place), negative);
+            for (variables, sign) in literal_parts(literal) {
+                let set = variables.iter().map(|&v| v as u16).collect();
+                start.add(set, times(power(place), sign));
             }
         }
         for i in 0..n {
             for j in 0..n {
                 let (a_i, b_j) = ((1 + i) as u16, (1 + n + j) as u16);
                 let signed = rules.signed_terms_have_signs && reading.term_is_negative(n, i, j);
-                start.add(vec![b_j, a_i], power(i + j), !signed);
+                let sign = if signed { 1 } else { -1 };
+                start.add(vec![b_j, a_i], times(power(i + j), sign));
             }
         }
         start
     }
 
-    /// Every term with the gate's variable is replaced by itself with the product of the two literals.
-    pub fn step(&self, variable: u32, gate: (u32, u32)) -> Polynomial {
+    /// Every term with the variable is replaced by itself with the record's polynomial in the variable's place.
+    pub fn step(&self, rules: &Rules, variable: u32, record: Record) -> Polynomial {
         let variable = variable as u16;
+        let parts = record.parts(rules);
+        let joins = record.squares_join(rules);
         let mut next = Polynomial {
             terms: BTreeMap::new(),
             put_in: 0,
@@ -67,42 +67,30 @@ impl Polynomial {
         };
         for (set, &coefficient) in &self.terms {
             if !set.contains(&variable) {
-                next.add(set.clone(), coefficient, false);
+                next.add(set.clone(), coefficient);
                 continue;
             }
             let rest: Set = set.iter().copied().filter(|&v| v != variable).collect();
-            for (x, x_negative) in literal_terms(gate.0) {
-                for (y, y_negative) in literal_terms(gate.1) {
-                    let product = self.times(&self.times(&rest, x), y);
-                    next.add(product, coefficient, x_negative != y_negative);
+            for (variables, whole) in &parts {
+                let product = variables
+                    .iter()
+                    .fold(rest.clone(), |set, &v| with(set, v as u16, joins));
+                let made = times(coefficient, *whole);
+                if made & self.coefficient_bits == 0 && !rules.cells.vanished_terms_go {
+                    next.terms.entry(product).or_insert(0);
+                } else {
+                    next.add(product, made);
                 }
             }
         }
         next
     }
 
-    /// A set with one more variable; x·x is x.
-    fn times(&self, set: &Set, variable: Option<u16>) -> Set {
-        let mut product = set.clone();
-        if let Some(variable) = variable {
-            if !(self.squares_join && product.contains(&variable)) {
-                let place = product.partition_point(|&other| other > variable);
-                product.insert(place, variable);
-            }
-        }
-        product
-    }
-
     /// Gathers one term in; a coefficient that becomes zero takes its term away.
-    fn add(&mut self, set: Set, coefficient: u64, negative: bool) {
-        let signed = if negative {
-            coefficient.wrapping_neg()
-        } else {
-            coefficient
-        };
+    fn add(&mut self, set: Set, coefficient: u64) {
         self.put_in += 1;
         let before = self.terms.get(&set).copied().unwrap_or(0);
-        let after = before.wrapping_add(signed) & self.coefficient_bits;
+        let after = before.wrapping_add(coefficient) & self.coefficient_bits;
         if after == 0 {
             self.terms.remove(&set);
         } else {
@@ -157,13 +145,16 @@ fn power(place: u32) -> u64 {
     1u64.checked_shl(place).unwrap_or(0)
 }
 
-/// A literal stands for 0, 1, x or 1 - x.
-fn literal_terms(literal: u32) -> Vec<LiteralTerm> {
-    let variable = (literal / 2) as u16;
-    match literal {
-        0 => vec![],
-        1 => vec![(None, false)],
-        _ if literal.is_multiple_of(2) => vec![(Some(variable), false)],
-        _ => vec![(None, false), (Some(variable), true)],
+/// A coefficient times a whole number, modulo 2^64.
+fn times(coefficient: u64, whole: i64) -> u64 {
+    coefficient.wrapping_mul(whole as u64)
+}
+
+/// A set with one more variable; x·x is x.
+fn with(mut set: Set, variable: u16, joins: bool) -> Set {
+    if !(joins && set.contains(&variable)) {
+        let place = set.partition_point(|&other| other > variable);
+        set.insert(place, variable);
     }
+    set
 }

@@ -1,4 +1,4 @@
-//! The rules of document 01 as values, and the numbers of refusal.
+//! The rules of document 01 and of section 5 of document 02 as values, and the numbers of refusal.
 //!
 //! Every field states one rule, and `of_document` gives it the document's
 //! value. The rest of the program asks these fields instead of writing the
@@ -9,7 +9,7 @@
 pub const HEADER: u32 = 1;
 /// A count outside its limits.
 pub const COUNTS: u32 = 2;
-/// Table shorter than O + 2A.
+/// Table shorter than O + 2A, or O + 4A for lookup cells.
 pub const TABLE_SHORT: u32 = 3;
 /// Input line wrong.
 pub const INPUT_LINE: u32 = 4;
@@ -37,6 +37,7 @@ pub struct Rules {
     pub counts: CountRules,
     pub text: TextRules,
     pub table: TableRules,
+    pub cells: CellRules,
     pub judging: JudgingRules,
     pub desk: DeskRules,
 }
@@ -80,6 +81,20 @@ pub struct TableRules {
     pub gate_inverters_count: bool,
     pub output_inverters_count: bool,
     pub literal_1_is_true: bool,
+}
+
+/// What a lookup cell is, what it asks of lent words, and what its step makes.
+#[derive(Clone, Copy, Debug, PartialEq, Eq)]
+pub struct CellRules {
+    pub record_has_four_words: bool,
+    pub most_byte: u32,
+    pub cell_reads_below_itself: bool,
+    pub first_variable_is_lowest: bool,
+    pub variable_0_is_false: bool,
+    pub last_of_parity_is_plus: bool,
+    pub squares_join: bool,
+    pub vanished_terms_go: bool,
+    pub scratch_is_eightfold: bool,
 }
 
 /// What judging counts, chooses and leaves in the lent words.
@@ -133,6 +148,7 @@ impl Rules {
             counts: CountRules::of_document(),
             text: TextRules::of_document(),
             table: TableRules::of_document(),
+            cells: CellRules::of_document(),
             judging: JudgingRules::of_document(),
             desk: DeskRules::of_document(),
         }
@@ -182,6 +198,22 @@ impl TableRules {
             gate_inverters_count: true,
             output_inverters_count: true,
             literal_1_is_true: true,
+        }
+    }
+}
+
+impl CellRules {
+    const fn of_document() -> CellRules {
+        CellRules {
+            record_has_four_words: true,
+            most_byte: 255,
+            cell_reads_below_itself: true,
+            first_variable_is_lowest: true,
+            variable_0_is_false: true,
+            last_of_parity_is_plus: true,
+            squares_join: true,
+            vanished_terms_go: true,
+            scratch_is_eightfold: true,
         }
     }
 }

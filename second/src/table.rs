@@ -1,5 +1,7 @@
 //! Counts, sound tables, and the value of a netlist at one operand pair.
 
+use crate::cells::Cell;
+use crate::records::{Record, Records};
 use crate::rules::{self, CountRules, Rules, TableRules};
 
 /// The five numbers of a header line.
@@ -18,9 +20,9 @@ impl Counts {
         self.i / 2
     }
 
-    /// The table words these counts need: the outputs, then two for each gate.
-    pub fn table_words(self) -> u64 {
-        u64::from(self.o) + 2 * u64::from(self.a)
+    /// The table words these counts need: the outputs, then those of each record.
+    pub fn table_words(self, records: Records) -> u64 {
+        u64::from(self.o) + records.words() as u64 * u64::from(self.a)
     }
 
     /// The 64-bit words of one term: its coefficient, then its set.
@@ -70,30 +72,41 @@ pub fn gate_is_sound(rules: &TableRules, lhs: u32, rhs0: u32, rhs1: u32) -> bool
 #[derive(Clone, Copy, Debug)]
 pub struct Netlist<'a> {
     pub counts: Counts,
+    pub records: Records,
     table: &'a [u32],
 }
 
 impl<'a> Netlist<'a> {
     /// Refusals 2 and 3; the words themselves are looked at by `soundness`.
-    pub fn of(rules: &Rules, counts: Counts, table: &'a [u32]) -> Result<Netlist<'a>, u32> {
+    pub fn of(
+        rules: &Rules,
+        counts: Counts,
+        table: &'a [u32],
+        records: Records,
+    ) -> Result<Netlist<'a>, u32> {
         counts.within_limits(&rules.counts)?;
-        if (table.len() as u64) < counts.table_words() {
+        let needed = counts.table_words(records.measured(&rules.cells));
+        if (table.len() as u64) < needed {
             return Err(rules::TABLE_SHORT);
         }
-        Ok(Netlist { counts, table })
+        Ok(Netlist {
+            counts,
+            records,
+            table,
+        })
     }
 
     /// Refusal 8.
-    pub fn soundness(&self, rules: &TableRules) -> Result<(), u32> {
+    pub fn soundness(&self, rules: &Rules) -> Result<(), u32> {
         let outputs_hold = self
             .outputs()
             .iter()
-            .all(|&literal| output_is_sound(rules, self.counts, literal));
-        let gates_hold = self.gates().all(|gate| {
-            let (rhs0, rhs1) = self.gate(gate);
-            gate_is_sound(rules, 2 * gate, rhs0, rhs1)
+            .all(|&literal| output_is_sound(&rules.table, self.counts, literal));
+        let records_hold = self.gates().all(|gate| match self.record(gate) {
+            Record::Gate(rhs0, rhs1) => gate_is_sound(&rules.table, 2 * gate, rhs0, rhs1),
+            Record::Cell(cell) => cell.is_sound(&rules.cells, gate),
         });
-        if outputs_hold && gates_hold {
+        if outputs_hold && records_hold {
             Ok(())
         } else {
             Err(rules::UNSOUND)
@@ -104,29 +117,34 @@ impl<'a> Netlist<'a> {
         &self.table[..self.counts.o as usize]
     }
 
-    /// The gate variables, lowest first.
+    /// The variables of gates or cells, lowest first.
     pub fn gates(&self) -> std::ops::RangeInclusive<u32> {
         self.counts.i + 1..=self.counts.i + self.counts.a
     }
 
-    /// The two literals that a gate variable is the AND of.
-    pub fn gate(&self, variable: u32) -> (u32, u32) {
+    /// What a variable above the inputs stands for.
+    pub fn record(&self, variable: u32) -> Record {
         let before = (variable - self.counts.i - 1) as usize;
-        let at = self.counts.o as usize + 2 * before;
-        (self.table[at], self.table[at + 1])
+        let first = self.counts.o as usize + self.records.words() * before;
+        // A bent rule may take a table that ends before its last record does.
+        let word = |place: usize| self.table.get(first + place).copied().unwrap_or(0);
+        match self.records {
+            Records::Gates => Record::Gate(word(0), word(1)),
+            Records::Cells => Record::Cell(Cell {
+                byte: word(0),
+                variables: [word(1), word(2), word(3)],
+            }),
+        }
     }
 
     /// The value of every variable at an operand pair; place 0 stands for the constant false.
-    pub fn values(&self, rules: &TableRules, a: u64, b: u64) -> Vec<bool> {
+    pub fn values(&self, rules: &Rules, a: u64, b: u64) -> Vec<bool> {
         let mut values = vec![false; self.counts.m as usize + 1];
         for input in 1..=self.counts.i {
-            values[input as usize] = input_value(rules, self.counts.n(), input, a, b);
+            values[input as usize] = input_value(&rules.table, self.counts.n(), input, a, b);
         }
         for gate in self.gates() {
-            let (rhs0, rhs1) = self.gate(gate);
-            let drop = if rules.gate_inverters_count { 0 } else { 1 };
-            values[gate as usize] = literal_value(rules, &values, rhs0 & !drop)
-                && literal_value(rules, &values, rhs1 & !drop);
+            values[gate as usize] = record_value(rules, &values, self.record(gate));
         }
         values
     }
@@ -166,6 +184,21 @@ fn input_value(rules: &TableRules, n: u32, input: u32, a: u64, b: u64) -> bool {
     second >> place & 1 == 1 || leak
 }
 
+fn record_value(rules: &Rules, values: &[bool], record: Record) -> bool {
+    match record {
+        Record::Gate(rhs0, rhs1) => {
+            let drop = if rules.table.gate_inverters_count {
+                0
+            } else {
+                1
+            };
+            let value = |literal: u32| literal_value(&rules.table, values, literal & !drop);
+            value(rhs0) && value(rhs1)
+        }
+        Record::Cell(cell) => cell.value(&rules.cells, values),
+    }
+}
+
 pub fn literal_value(rules: &TableRules, values: &[bool], literal: u32) -> bool {
     if literal == 1 {
         return rules.literal_1_is_true;
@@ -175,19 +208,26 @@ pub fn literal_value(rules: &TableRules, values: &[bool], literal: u32) -> bool 
 }
 
 /// The word the outputs show at one operand pair. Any O will do: no reading is asked for.
-pub fn evaluate(counts: Counts, table: &[u32], a: u64, b: u64) -> Result<u64, u32> {
-    evaluate_by(&Rules::of_document(), counts, table, a, b)
+pub fn evaluate(
+    counts: Counts,
+    table: &[u32],
+    records: Records,
+    a: u64,
+    b: u64,
+) -> Result<u64, u32> {
+    evaluate_by(&Rules::of_document(), counts, table, records, a, b)
 }
 
 pub fn evaluate_by(
     rules: &Rules,
     counts: Counts,
     table: &[u32],
+    records: Records,
     a: u64,
     b: u64,
 ) -> Result<u64, u32> {
-    let netlist = Netlist::of(rules, counts, table)?;
-    netlist.soundness(&rules.table)?;
-    let values = netlist.values(&rules.table, a, b);
+    let netlist = Netlist::of(rules, counts, table, records)?;
+    netlist.soundness(rules)?;
+    let values = netlist.values(rules, a, b);
     Ok(netlist.word(&rules.table, &values))
 }

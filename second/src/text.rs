@@ -1,5 +1,6 @@
 //! Reading a netlist text into a table.
 
+use crate::records::Records;
 use crate::rules::{self, Rules, TextRules};
 use crate::table::{gate_is_sound, output_is_sound, Counts};
 
@@ -143,8 +144,8 @@ pub fn read_by(rules: &Rules, text: &[u8], table: &mut [u32]) -> Result<Counts, 
     };
     let counts = header(&rules.text, &mut lines).ok_or(rules::HEADER)?;
     counts.within_limits(&rules.counts)?;
-    let too_short =
-        (table.len() as u64) < counts.table_words() && rules.text.table_length_is_checked;
+    let too_short = (table.len() as u64) < counts.table_words(Records::Gates)
+        && rules.text.table_length_is_checked;
     if too_short && rules.text.table_comes_before_lines {
         return Err(rules::TABLE_SHORT);
     }

@@ -2,7 +2,7 @@
 
 use crate::judge::{Question, Run};
 use crate::polynomial::{Polynomial, Set};
-use crate::rules::{self, JudgingRules};
+use crate::rules::{self, JudgingRules, Rules};
 
 /// A record of the log: the gate of a step, and the terms after it. Its layout is that of a C host.
 #[derive(Clone, Copy, Debug, Default, PartialEq, Eq)]
@@ -21,11 +21,13 @@ pub struct Lent<'a> {
 
 impl Lent<'_> {
     /// Refusal 12.
-    pub fn is_long_enough(&self, rules: &JudgingRules, question: &Question) -> Result<(), u32> {
+    pub fn is_long_enough(&self, rules: &Rules, question: &Question) -> Result<(), u32> {
         let needed = store_words(question);
+        let measured = question.netlist.records.measured_in_scratch(&rules.cells);
+        let scratch_holds = self.scratch.len() >= measured.most_made() * needed;
         let steps = question.order.len();
-        let log_holds = self.log.len() >= steps || !rules.log_is_measured;
-        if self.store.len() >= needed && self.scratch.len() >= 4 * needed && log_holds {
+        let log_holds = self.log.len() >= steps || !rules.judging.log_is_measured;
+        if self.store.len() >= needed && scratch_holds && log_holds {
             Ok(())
         } else {
             Err(rules::LENT_SHORT)

@@ -3,14 +3,18 @@
 mod common;
 
 use common::DOCUMENT;
-use second::brute::{least_wrong_pair, WrongPair};
+use second::brute::WrongPair;
 use second::cases::judgements::{random_netlist, random_order};
-use second::judge::Question;
-use second::netlists::{multiplier, Made};
+use second::netlists::{multiplier, right_multiplier, Made};
 use second::orders::{falling, honest, is_honest};
 use second::random::Random;
 use second::reading::Reading;
-use second::{evaluate, wanted, Answer};
+use second::{wanted, Answer, Records};
+
+/// The least wrong pair, found by trying all.
+fn least_wrong_pair(made: &Made, kind: u32) -> Result<Option<WrongPair>, u32> {
+    second::brute::least_wrong_pair(made.counts, &made.table, made.records, kind)
+}
 
 /// How often each answer was met.
 #[derive(Default, Debug)]
@@ -45,27 +49,31 @@ fn agree(answer: &Answer, brute: Option<WrongPair>, order_is_honest: bool, met: 
 
 #[test]
 fn trying_all_pairs_agrees_with_the_polynomial() {
-    let mut met = Met::default();
-    for seed in 0..6_000 {
-        let mut random = Random::new(seed);
-        let reading = Reading::ALL[seed as usize % 3];
-        let made = random_netlist(&mut random, reading);
-        let kind = reading.kind();
-        let brute = least_wrong_pair(made.counts, &made.table, kind).unwrap();
-        for _ in 0..3 {
-            let order = random_order(&mut random, &made);
-            let limit = random.pick(&[128, 200, 1_000]);
-            let question =
-                Question::checked(&DOCUMENT, made.counts, &made.table, kind, limit, &order)
-                    .unwrap();
-            let run = question.run(&DOCUMENT);
-            let order_is_honest = is_honest(&made.netlist(), &order);
-            agree(&run.answer, brute, order_is_honest, &mut met);
+    for records in Records::ALL {
+        let mut met = Met::default();
+        for seed in 0..3_000 {
+            try_all_and_judge(seed, records, &mut met);
         }
+        let least = 100;
+        assert!(met.equal > least && met.differs > least, "{met:?}");
+        assert!(met.out_of_room > least && met.unfinished > least, "{met:?}");
     }
-    let least = 200;
-    assert!(met.equal > least && met.differs > least, "{met:?}");
-    assert!(met.out_of_room > least && met.unfinished > least, "{met:?}");
+}
+
+/// One random netlist in three orders.
+fn try_all_and_judge(seed: u64, records: Records, met: &mut Met) {
+    let mut random = Random::new(seed);
+    let reading = Reading::ALL[seed as usize % 3];
+    let made = random_netlist(&mut random, records, reading);
+    let kind = reading.kind();
+    let brute = least_wrong_pair(&made, kind).unwrap();
+    for _ in 0..3 {
+        let order = random_order(&mut random, &made);
+        let limit = random.pick(&[128, 200, 1_000]);
+        let answer = answer_of(&made, kind, limit, &order);
+        let order_is_honest = is_honest(&made.netlist(), &order);
+        agree(&answer, brute, order_is_honest, met);
+    }
 }
 
 #[test]
@@ -73,23 +81,22 @@ fn every_polynomial_held_is_got_minus_wanted_at_every_pair() {
     for seed in 0..1_500 {
         let mut random = Random::new(seed);
         let reading = Reading::ALL[seed as usize % 3];
-        let made = random_netlist(&mut random, reading);
+        let records = Records::ALL[seed as usize % 2];
+        let made = random_netlist(&mut random, records, reading);
         if made.counts.i > 6 {
             continue;
         }
         let order = random_order(&mut random, &made);
         let kind = reading.kind();
-        let question =
-            Question::checked(&DOCUMENT, made.counts, &made.table, kind, 128, &order).unwrap();
-        let run = question.run(&DOCUMENT);
+        let run = made.question(kind, 128, &order).unwrap().run(&DOCUMENT);
         let Some(held) = run.held else { continue };
         let n = made.counts.n();
         let bits = second::reading::low_bits(reading.outputs(n));
         for pair in 0..1u64 << (2 * n) {
             let (a, b) = (pair % (1 << n), pair >> n);
-            let got = evaluate(made.counts, &made.table, a, b).unwrap();
+            let got = made.word_at(a, b).unwrap();
             let error = got.wrapping_sub(wanted(kind, n, a, b)) & bits;
-            let values = made.netlist().values(&DOCUMENT.table, a, b);
+            let values = made.netlist().values(&DOCUMENT, a, b);
             assert_eq!(held.value(&values), error, "seed {seed}");
         }
     }
@@ -98,12 +105,12 @@ fn every_polynomial_held_is_got_minus_wanted_at_every_pair() {
 #[test]
 fn made_multipliers_are_right_under_their_own_reading() {
     for seed in 0..10 {
+        let records = Records::ALL[seed as usize % 2];
         for n in 1..=4 {
             for reading in Reading::ALL {
-                let made = multiplier(&mut Random::new(seed), reading, n);
+                let made = right_multiplier(&mut Random::new(seed), records, reading, n);
                 let kind = reading.kind();
-                let brute = least_wrong_pair(made.counts, &made.table, kind);
-                assert_eq!(brute, Ok(None));
+                assert_eq!(least_wrong_pair(&made, kind), Ok(None));
                 let answer = answer_of(&made, kind, 16_384, &falling(made.counts));
                 assert!(matches!(answer, Answer::Equal { .. }), "{answer:?}");
             }
@@ -112,7 +119,7 @@ fn made_multipliers_are_right_under_their_own_reading() {
 }
 
 fn answer_of(made: &Made, kind: u32, limit: u64, order: &[u32]) -> Answer {
-    let question = Question::checked(&DOCUMENT, made.counts, &made.table, kind, limit, order);
+    let question = made.question(kind, limit, order);
     question.unwrap().run(&DOCUMENT).answer
 }
 
@@ -122,13 +129,13 @@ fn a_plain_multiplier_of_eight_bits_is_decided_both_ways() {
     for reading in [Reading::Plain, Reading::Truncated] {
         let made = multiplier(&mut random, reading, 8);
         let kind = reading.kind();
-        assert_eq!(least_wrong_pair(made.counts, &made.table, kind), Ok(None));
+        assert_eq!(least_wrong_pair(&made, kind), Ok(None));
         let answer = answer_of(&made, kind, 16_384, &falling(made.counts));
         assert!(matches!(answer, Answer::Equal { .. }), "{answer:?}");
     }
     let plain = multiplier(&mut random, Reading::Plain, 8);
     let signed = Reading::Signed.kind();
-    let brute = least_wrong_pair(plain.counts, &plain.table, signed).unwrap();
+    let brute = least_wrong_pair(&plain, signed).unwrap();
     let answer = answer_of(&plain, signed, 16_384, &falling(plain.counts));
     agree(&answer, brute, true, &mut Met::default());
     // The least wrong pair is the top bit of a with the lowest of b.
@@ -139,7 +146,8 @@ fn a_plain_multiplier_of_eight_bits_is_decided_both_ways() {
 fn honest_orders_are_honest_and_others_are_not() {
     for seed in 0..300 {
         let mut random = Random::new(seed);
-        let made = random_netlist(&mut random, Reading::Plain);
+        let records = Records::ALL[seed as usize % 2];
+        let made = random_netlist(&mut random, records, Reading::Plain);
         let netlist = made.netlist();
         let order = honest(&mut random, &netlist);
         assert!(is_honest(&netlist, &order));

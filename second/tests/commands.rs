@@ -90,6 +90,29 @@ fn evaluate_prints_the_word() {
 }
 
 #[test]
+fn a_file_of_cells_is_judged_and_evaluated_as_cells() {
+    let block = file("and.cells", "3 2 0 2 1\n6\n0\n136 1 2 0\n");
+    let block = block.to_str().unwrap();
+    let lines = printed(&["judge", "--steps", "u", "128", block], b"");
+    assert_eq!(lines, "E 1 0\n3 0\n");
+    assert_eq!(printed(&["evaluate", block, "1", "1"], b""), "1\n");
+    assert_eq!(printed(&["evaluate", block, "1", "0"], b""), "0\n");
+    for (name, text, line) in [
+        ("counts", "4000000000 2 0 2 1\n6\n0\n136 1 2 0\n", "X 2\n"),
+        ("byte", "3 2 0 2 1\n6\n0\n256 1 2 0\n", "X 8\n"),
+        ("reading", "3 2 0 1 1\n6\n136 1 2 0\n", "X 9\n"),
+    ] {
+        let wrong = file(&format!("{name}.cells"), text);
+        let wrong = wrong.to_str().unwrap();
+        assert_eq!(printed(&["judge", "u", "128", wrong], b""), line);
+    }
+    let cut = file("cut.cells", "3 2 0 2 1\n6\n0\n136 1 2\n");
+    let output = second(&["judge", "u", "128", cut.to_str().unwrap()], b"");
+    assert_eq!(output.status.code(), Some(2));
+    assert!(output.stdout.is_empty() && !output.stderr.is_empty());
+}
+
+#[test]
 fn misuse_prints_the_usage_and_ends_with_2() {
     let wrong: [&[&str]; 12] = [
         &[],

@@ -10,7 +10,7 @@ use second::cases::texts::AND_TEXT;
 use second::netlists::{multiplier, random_size, random_sound, with_fault, Made};
 use second::random::Random;
 use second::reading::Reading;
-use second::{blocks, desk, desk_by, Rules};
+use second::{blocks, desk, desk_by, Records, Rules};
 use std::collections::BTreeSet;
 use std::io::Write;
 use std::path::PathBuf;
@@ -85,7 +85,9 @@ fn long_inputs() -> Vec<Vec<u8>> {
 
 /// Every real block under each kind, those with M > 127 too.
 fn real_blocks() -> Vec<Vec<u8>> {
-    let texts = blocks::all().into_iter().map(|block| block.made.text());
+    let texts = blocks::of_gates()
+        .into_iter()
+        .map(|block| block.made.text());
     texts
         .flat_map(|text| under_each_kind(&text).collect::<Vec<_>>())
         .collect()
@@ -96,7 +98,7 @@ fn kind_line(random: &mut Random) -> &'static str {
 }
 
 fn damaged(random: &mut Random, damage: Damage) -> Vec<u8> {
-    let made = random_size(random);
+    let made = random_size(random, Records::Gates);
     let text = damage.text_of(random, &made);
     desks::input(kind_line(random), &text)
 }
@@ -104,7 +106,7 @@ fn damaged(random: &mut Random, damage: Damage) -> Vec<u8> {
 /// A block that fits the desk, real or made, with one or two faults under its own reading.
 fn wrong_block(random: &mut Random) -> Vec<u8> {
     static FITTING: LazyLock<Vec<(Reading, Made)>> = LazyLock::new(|| {
-        let fitting = blocks::all()
+        let fitting = blocks::of_gates()
             .into_iter()
             .filter(|block| block.made.counts.m <= 127);
         fitting.map(|block| (block.reading, block.made)).collect()

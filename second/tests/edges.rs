@@ -8,7 +8,7 @@ use second::cases::{marked_steps, marked_words};
 use second::netlists::{random_sound, Made};
 use second::random::Random;
 use second::Answer::{Differs, Equal, OutOfRoom, Refused, Unfinished};
-use second::{evaluate, orders, wanted, Counts};
+use second::{evaluate, orders, wanted, Counts, Records};
 
 #[test]
 fn twelve_bits_never_fit_128_and_always_fit_169_at_the_start() {
@@ -194,7 +194,7 @@ fn sets_are_ordered_by_their_last_word() {
 fn the_wrong_pair_is_no_term_that_contains_a_smaller_one() {
     // P9 ends with a + b + 2ab. The term ab is left, but at a = b = 1 the sum is 4, which is 0.
     let made = Made::new(2, &[7, 0], &[(5, 3)]);
-    assert_eq!(evaluate(made.counts, &made.table, 1, 1), Ok(1));
+    assert_eq!(made.word_at(1, 1), Ok(1));
     assert_eq!(wanted(0, 1, 1, 1), 1);
     match answered(&made, 0, 128, &[3]) {
         Differs { terms, a, b, .. } => assert_eq!((terms, a, b), (3, 1, 0)),
@@ -308,15 +308,14 @@ fn one_bit_signed_operands_are_0_or_minus_1() {
 #[test]
 fn the_evaluator_takes_any_outputs_and_cuts_operands() {
     let made = Made::new(2, &[2, 4, 6, 7, 1, 0], &[(4, 2)]);
-    let word = |a, b| evaluate(made.counts, &made.table, a, b);
+    let word = |a, b| made.word_at(a, b);
     assert_eq!(word(0, 0), Ok(0b011000));
     assert_eq!(word(1, 0), Ok(0b011001));
     assert_eq!(word(0, 1), Ok(0b011010));
     assert_eq!(word(1, 1), Ok(0b010111));
     assert_eq!(word(u64::MAX, 2), Ok(0b011001));
     let highest = Made::new(64, &[128; 64], &[]);
-    let shown = evaluate(highest.counts, &highest.table, 0, 1 << 31);
-    assert_eq!(shown, Ok(u64::MAX));
+    assert_eq!(highest.word_at(0, 1 << 31), Ok(u64::MAX));
 }
 
 #[test]
@@ -328,5 +327,8 @@ fn sums_of_counts_do_not_wrap() {
         o: 2,
         a: u32::MAX,
     };
-    assert_eq!(evaluate(counts, &[6, 0, 4, 2], 0, 0), Err(2));
+    for records in Records::ALL {
+        let table = [6, 0, 136, 1, 2, 0];
+        assert_eq!(evaluate(counts, &table, records, 0, 0), Err(2));
+    }
 }

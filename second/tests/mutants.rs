@@ -5,7 +5,7 @@ mod common;
 use common::DOCUMENT;
 use second::cases::{desks, judgements, pairs, texts};
 use second::random::Random;
-use second::{desk_by, Rules};
+use second::{desk_by, Records, Rules};
 
 const RANDOM_CASES: u64 = 400;
 
@@ -27,6 +27,15 @@ fn with_random<C>(edges: Vec<C>, random: fn(&mut Random) -> C) -> Vec<C> {
     edges.into_iter().chain(made).collect()
 }
 
+/// Gates and cells in turn.
+fn with_random_of_both<C>(edges: Vec<C>, random: fn(&mut Random, Records) -> C) -> Vec<C> {
+    let made = (0..RANDOM_CASES).map(|seed| {
+        let records = Records::ALL[seed as usize % 2];
+        random(&mut Random::new(seed), records)
+    });
+    edges.into_iter().chain(made).collect()
+}
+
 #[test]
 fn mutants_of_reading_are_caught() {
     let cases = with_random(texts::edges(), texts::random);
@@ -35,13 +44,13 @@ fn mutants_of_reading_are_caught() {
 
 #[test]
 fn mutants_of_the_evaluator_are_caught() {
-    let cases = with_random(pairs::edges(), pairs::random);
+    let cases = with_random_of_both(pairs::edges(), pairs::random);
     all_are_caught("evaluate", cases, |case, rules| case.seen(rules));
 }
 
 #[test]
 fn mutants_of_judging_are_caught() {
-    let cases = with_random(judgements::edges(), judgements::random);
+    let cases = with_random_of_both(judgements::edges(), judgements::random);
     all_are_caught("judge", cases, |case, rules| case.seen(rules));
 }
 
@@ -49,6 +58,22 @@ fn mutants_of_judging_are_caught() {
 fn mutants_of_the_desk_are_caught() {
     let cases = with_random(desks::edges(), desks::random);
     all_are_caught("desk", cases, |case, rules| desk_by(rules, case));
+}
+
+#[test]
+fn bent_rules_of_cells_leave_gates_alone() {
+    let cases: Vec<_> = (0..100)
+        .map(|seed| judgements::random(&mut Random::new(seed), Records::Gates))
+        .collect();
+    let mut mutants = Rules::mutants_of("judge");
+    mutants.retain(|(_, bent)| bent.cells != DOCUMENT.cells);
+    assert_eq!(mutants.len(), 10);
+    for case in cases {
+        let right = case.seen(&DOCUMENT);
+        for (name, bent) in &mutants {
+            assert!(case.seen(bent) == right, "{name}");
+        }
+    }
 }
 
 #[test]

@@ -3,13 +3,19 @@
 mod common;
 
 use second::blocks::{all, is_believable, most_terms, orders_for, run, thrifty_order, Block};
-use second::brute::least_wrong_pair;
+use second::brute::{least_wrong_pair, WrongPair};
 use second::orders::is_honest;
 use second::reading::Reading;
-use second::{evaluate, wanted, Answer};
+use second::{wanted, Answer};
 
 fn small_blocks() -> Vec<Block> {
     all().into_iter().filter(|block| block.n <= 6).collect()
+}
+
+/// Found by trying all pairs.
+fn least_wrong(block: &Block) -> Result<Option<WrongPair>, u32> {
+    let made = &block.made;
+    least_wrong_pair(made.counts, &made.table, made.records, block.reading.kind())
 }
 
 fn answer(block: &Block, limit: u64, order: &[u32]) -> Answer {
@@ -19,7 +25,7 @@ fn answer(block: &Block, limit: u64, order: &[u32]) -> Answer {
 #[test]
 fn names_tell_the_operand_bits_and_the_outputs() {
     let blocks = all();
-    assert_eq!(blocks.len(), 33);
+    assert_eq!(blocks.len(), 33 + 8);
     for block in blocks {
         assert_eq!(block.n, block.made.counts.n(), "{}", block.name);
         assert_eq!(block.reading.outputs(block.n), block.made.counts.o);
@@ -29,8 +35,7 @@ fn names_tell_the_operand_bits_and_the_outputs() {
 #[test]
 fn small_blocks_are_right_at_all_pairs() {
     for block in small_blocks() {
-        let (counts, table) = (block.made.counts, &block.made.table);
-        let brute = least_wrong_pair(counts, table, block.reading.kind());
+        let brute = least_wrong(&block);
         assert_eq!(brute, Ok(None), "{}", block.name);
     }
 }
@@ -86,6 +91,10 @@ fn blocks_need_the_terms_that_their_readme_tells() {
         match block.name.as_str() {
             "abc-blast-u8" => assert_eq!(most_terms(&falling), 87),
             "abc-booth-u8" => assert_eq!(most_terms(&falling), 381),
+            "yosys-lut3-u6" => assert_eq!(most_terms(&falling), 5_359),
+            "yosys-lut3-s5" => assert_eq!(most_terms(&falling), 135),
+            "yosys-lut3-t8" => assert_eq!(most_terms(&falling), 95),
+            "yosys-lut3-s8" => assert!(matches!(falling.answer, Answer::OutOfRoom { .. })),
             "yosys-techmap-u8" | "yosys-techmap-s8" => {
                 assert!(matches!(falling.answer, Answer::OutOfRoom { .. }));
                 let better = thrifty_order(&block, 16_384).steps;
@@ -102,7 +111,9 @@ fn blocks_need_the_terms_that_their_readme_tells() {
 #[test]
 fn plain_blocks_differ_when_read_as_signed() {
     for block in small_blocks() {
-        if block.reading != Reading::Plain || !block.name.starts_with("abc") {
+        // The others have no room for it in this order.
+        let has_room = block.name.starts_with("abc") || block.name == "yosys-lut3-u4";
+        if block.reading != Reading::Plain || !has_room {
             continue;
         }
         let order = second::orders::falling(block.made.counts);
@@ -110,8 +121,7 @@ fn plain_blocks_differ_when_read_as_signed() {
             reading: Reading::Signed,
             ..block
         };
-        let (counts, table) = (signed.made.counts, &signed.made.table);
-        let brute = least_wrong_pair(counts, table, 1).unwrap().unwrap();
+        let brute = least_wrong(&signed).unwrap().unwrap();
         match answer(&signed, 1_024, &order) {
             Answer::Differs {
                 a, b, got, wanted, ..
@@ -130,7 +140,7 @@ fn larger_blocks_show_the_wanted_word_at_random_pairs() {
     for block in all() {
         for _ in 0..200 {
             let (a, b) = (random.word(), random.word());
-            let got = evaluate(block.made.counts, &block.made.table, a, b);
+            let got = block.made.word_at(a, b);
             assert_eq!(got, Ok(wanted(block.reading.kind(), block.n, a, b)));
         }
     }

@@ -8,7 +8,7 @@ use second::cases::texts::{edited, TextCase, AND_TEXT};
 use second::cases::{marked_numbers, marked_steps, marked_words};
 use second::netlists::Made;
 use second::Answer::{Equal, Refused};
-use second::{desk, evaluate, read, Counts};
+use second::{desk, evaluate, read, Counts, Records};
 
 /// What reading says, after seeing that a refusal left the table alone.
 fn refusal_of(text: &[u8], table_words: usize) -> u32 {
@@ -200,7 +200,7 @@ fn reading_meets_its_refusals_in_text_order() {
 #[test]
 fn the_evaluator_checks_2_3_and_8() {
     let right = and_netlist(&[6, 0]);
-    let at = |counts, table: &[u32]| evaluate(counts, table, 1, 1);
+    let at = |counts, table: &[u32]| evaluate(counts, table, Records::Gates, 1, 1);
     assert_eq!(at(right.counts, &right.table), Ok(1));
     assert_eq!(at(right.counts, &[6, 0, 4, 2, 99]), Ok(1));
     assert_eq!(at(right.counts, &[6, 0, 4]), Err(3));

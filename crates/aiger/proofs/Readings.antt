@@ -10,6 +10,8 @@ use Rattle.rules.specs.Netlist.{needed, counts-wrong, table-short}
 use Rattle.rules.specs.Says.{first}
 use Rattle.rules.specs.Reading.{Scan, found, missing, header-line, input-line, output-line, gate-line, lines, refused, end-read, gates-read, outputs-read, inputs-read, counts-read, counts-of, header-read, reading}
 use Rattle.rules.specs.declared.counts.Counts.{Counts}
+use Rattle.rules.specs.declared.records.RecordKind.{RecordKind}
+use Rattle.rules.specs.declared.records.RecordKind.the-variants.{Gates}
 use Rattle.lines.specs.Sections.{bare}
 use Rattle.aiger.specs.Checked.{RightText}
 use Rattle.lines.proofs.Scans.{found-missing}
@@ -32,6 +34,11 @@ unfolding end-read
 byte-left c words [] h = absurd (omega arith)
 byte-left c words (x ∷ text) h = refl
 
+-- the counts of AND gates are those that their five numbers are
+counts-back : (c : Counts) → c .records ≡ Gates → counts-of (c .m ∷ c .i ∷ c .l ∷ c .o ∷ c .a ∷ []) ≡ c
+unfolding counts-of
+counts-back c e = sym (ap (λ (k : RecordKind). record { m = c .m; i = c .i; l = c .l; o = c .o; a = c .a; records = k }) e)
+
 -- each part of a text in its order: wrong, and refused with its number; or right, and the next
 module _ (text : List ℕ) (lent : ℕ) where
   -- no header line (1)
@@ -39,23 +46,28 @@ module _ (text : List ℕ) (lent : ℕ) where
   unfolding reading header-read
   header-refused e = rw e
 
-  module _ (c : Counts) {t₁ : List ℕ} (e₁ : header-line text ≡ found (c .m ∷ c .i ∷ c .l ∷ c .o ∷ c .a ∷ []) t₁) where
+  module _ (c : Counts) {t₁ : List ℕ} (e₁ : (header-line text ≡ found (c .m ∷ c .i ∷ c .l ∷ c .o ∷ c .a ∷ []) t₁) × (c .records ≡ Gates)) where
+    -- the header is there: the counts
+    counts : reading lent text ≡ counts-read c t₁ (first ((2, counts-wrong c) ∷ (3, table-short c lent) ∷ []))
+    unfolding reading header-read
+    counts = rw (e₁ .0, counts-back c (e₁ .1))
+
     -- a count outside its limits (2)
     pub counts-refused : counts-wrong c ≡ true → reading lent text ≡ refused 2
-    unfolding reading header-read counts-of first counts-read
-    counts-refused e = rw (e₁, e)
+    unfolding first counts-read
+    counts-refused e = counts ∙ rw e
 
     module _ (right : counts-wrong c ≡ false) where
       -- a table too short (3)
       pub table-refused : table-short c lent ≡ true → reading lent text ≡ refused 3
-      unfolding reading header-read counts-of first counts-read
-      table-refused e = rw (e₁, right, e)
+      unfolding first counts-read
+      table-refused e = counts ∙ rw (right, e)
 
       module _ (room : table-short c lent ≡ false) where
         -- the header is right: the input lines
         inputs : reading lent text ≡ inputs-read c (lines (c .i) input-line t₁)
-        unfolding reading header-read counts-of first counts-read
-        inputs = rw (e₁, right, room)
+        unfolding first counts-read
+        inputs = counts ∙ rw (right, room)
 
         -- one of them wrong (4)
         pub inputs-refused : bare (lines (c .i) input-line t₁) ≡ missing → reading lent text ≡ refused 4
@@ -102,6 +114,7 @@ module _ (text : List ℕ) (lent : ℕ) where
                     outputs = bare-found _ _ e₃ .0;
                     gates = bare-found _ _ e₄ .0;
                     rest = t₃;
+                    records = e₁ .1;
                     room = ltb-false lent (needed c) room;
                     outputs-found = rw (← place) (bare-found _ _ e₃ .1);
                     gates-found = bare-found _ _ e₄ .1 ∙ ap (found (bare-found _ _ e₄ .0)) end;

@@ -6,6 +6,7 @@ use lib.ListN.{drop}
 use Rattle.rules.specs.Netlist.{needed}
 use Rattle.rules.specs.Reading.{found, output-line, gate-line, lines, netlist, refused, reading}
 use Rattle.rules.specs.declared.counts.Counts.{Counts}
+use Rattle.rules.specs.declared.records.RecordKind.the-variants.{Gates}
 use Rattle.aiger.specs.declared.Outcome.{Outcome}
 use Rattle.aiger.specs.declared.Outcome.the-variants.{Right, Refused}
 
@@ -14,6 +15,7 @@ pub record RightText (text : List ℕ) (words : ℕ) (c : Counts) (at : ℕ) : T
   pub outputs : List ℕ
   pub gates : List ℕ
   pub rest : List ℕ
+  pub records : c .records ≡ Gates
   pub room : needed c ≤ words
   pub outputs-found : lines (c .o) (output-line c) (drop at text) ≡ found outputs rest
   pub gates-found : lines (c .a) (gate-line c) rest ≡ found gates []

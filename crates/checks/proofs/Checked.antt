@@ -1,24 +1,27 @@
 -- How the checks' tests are put together, and what it says that none of them holds.
 use mathlib.Core.Path.{_≡_, refl}
-use mathlib.Core.Bool.{Bool, true, false, cond, _&&_, _||_, true≢false}
+use mathlib.Core.Bool.{Bool, true, false, cond, _&&_, _||_}
 use mathlib.Core.List.{List, [], _∷_, _++_}
 use Prim.Native.Nat.{ℕ, _+_, _*_, _/_, _^_, _<_, _≤_}
-use native.Mathlib.Nat.{mul-le-mul, mul-assoc}
+use native.Mathlib.Nat.{mul-le-mul}
 use native.Mathlib.Numerals.{add-one}
 use native.Mathlib.Omega.{arith}
 use lib.Dec.{ltb}
 use lib.ListN.{length, getD, take}
 use lib.Seq.{take-suc}
 use borrow.Author.Tests.{le-ltb, ltb-false}
+use Rattle.rules.proofs.Indices.{neither}
 use Rattle.rules.specs.Each.{every}
 use Rattle.rules.specs.Limits.{least-terms, most-terms, least-variables, most-variables, variables-wrong, terms-wrong, steps-wrong, making, Makes}
-use Rattle.rules.specs.Judging.{kind-wrong, judge-checks}
+use Rattle.rules.specs.Judging.{kind-wrong, most-made, judge-checks}
 use Rattle.rules.specs.Netlist.{counts-right, counts-wrong, table-short, table-unsound}
 use Rattle.rules.specs.Says.{answers, refuses, first, refuse-or, made-says}
 use Rattle.rules.specs.declared.counts.Counts.{Counts}
 use Rattle.rules.specs.declared.limits.Limits.{Limits}
 use Rattle.rules.specs.declared.limits.Made.{Made}
 use Rattle.rules.specs.declared.limits.Made.the-variants.{Within, Refused as RefusedMade}
+use Rattle.rules.specs.declared.records.RecordKind.{RecordKind}
+use Rattle.rules.specs.declared.records.RecordKind.the-variants.{Gates, Cells}
 use Rattle.checks.specs.Checking.{block-checks, run-checks}
 use Rattle.checks.specs.declared.Lent.{Lent}
 use Rattle.rules.proofs.Sound.{right-counts}
@@ -43,17 +46,17 @@ pub every-more : (test : ℕ → Bool) (list : List ℕ) (k : ℕ) (s t : Bool) 
     → (s && t) ≡ every test (take (k + 1) list)
 every-more test list k s t l e f = rw (add-one k, take-suc list k 0 l, every-append test (take k list) (getD list k 0), e, f)
 
--- a limit that is taken, times the words of a term, fits a word
-pub lent-fits : (c : Counts) (limit : ℕ) → counts-right c ≡ true → limit ≤ most-terms → 4 * limit * (c .m / 64 + 1 + 1) < 2 ^ 64
-lent-fits c limit h l =
-    let r = right-counts c h in
-    let w : c .m / 64 + 1 + 1 ≤ 17 = omega (arith, r .most) in
-    let f : 4 * limit ≤ 65536 = omega arith in
-    omega (arith, mul-le-mul f w)
+-- the most terms that a step makes of a limit that is taken
+pub made-few : (kind : RecordKind) (limit : ℕ) → limit ≤ most-terms → most-made kind * limit ≤ 8 * most-terms
+unfolding most-made
+made-few Gates limit l = omega arith
+made-few Cells limit l = omega arith
 
--- four times as many is at least as much
-pub four-times : (x y : ℕ) → x * y ≤ 4 * x * y
-four-times x y = rw (mul-assoc 4 x y) (omega arith)
+-- the words of so many terms, or of fewer, fit a word
+pub lent-fits : (c : Counts) (terms : ℕ) → counts-right c ≡ true → terms ≤ 8 * most-terms → terms * (c .m / 64 + 1 + 1) < 2 ^ 64
+lent-fits c terms h l =
+    let w : c .m / 64 + 1 + 1 ≤ 17 = omega (arith, right-counts c h .most) in
+    omega (arith, mul-le-mul l w)
 
 -- counts within their limits have a right M
 pub variables-right : (c : Counts) → counts-right c ≡ true → variables-wrong (c .m) ≡ false
@@ -85,11 +88,6 @@ made-within {t} {m} {s} {x} v e h = go (terms-wrong t) (steps-wrong s) (rw (e, v
     go true b k = let z : _≡_ {A = ℕ} 0 1 = cc in absurd (omega arith)
     go false true k = let z : _≡_ {A = ℕ} 0 1 = cc in absurd (omega arith)
     go false false k = (refl, refl, (cc), (cc))
-
--- neither part of a test that does not hold holds
-pub neither : (a b : Bool) → (a || b) ≡ false → (a ≡ false) × (b ≡ false)
-neither true b h = absurd (true≢false h)
-neither false b h = (refl, h)
 
 -- a limit that is not wrong is at most the most
 pub limit-small : (t : ℕ) → terms-wrong t ≡ false → t ≤ most-terms

@@ -7,6 +7,7 @@ use product::outputs;
 use rules::counts::Counts;
 use rules::limits::Limits;
 use rules::limits::Made;
+use rules::records::RecordKind;
 ghost use mathlib.Core.Path.{_≡_};
 ghost use mathlib.Core.Bool.{true};
 ghost use Prim.Native.Nat.{_≤_};
@@ -14,7 +15,7 @@ ghost use Rattle.rules.specs.Each.{every};
 ghost use Rattle.rules.specs.Limits.{most-terms};
 ghost use Rattle.rules.specs.Netlist.{counts-right};
 ghost use Rattle.rules.specs.Says.{first};
-ghost use Rattle.rules.specs.Judging.{is-gate, judge-checks, lent-short, kind-wrong};
+ghost use Rattle.rules.specs.Judging.{is-gate, judge-checks, most-made, lent-short, kind-wrong};
 ghost use Rattle.checks.specs.Checking.{block-checks, run-checks};
 
 // The lengths of the lent buffers.
@@ -48,13 +49,26 @@ fn names_gates(c: Counts, order: &[u32]) -> bool
     right
 }
 
+// The most terms that a step makes of one.
+fn most_made(records: RecordKind) -> usize
+    ensures { λ r. ⌜ r ≡ most-made records ⌝ }
+{
+    match records {
+        RecordKind::Gates => 4,
+        RecordKind::Cells => 8,
+    }
+}
+
 // Whether store, scratch or log is too short for so many terms and steps.
 fn lent_short(c: Counts, limit: usize, steps: usize, lent: Lent) -> bool
     requires { ⌜ (counts-right c ≡ true) × (limit ≤ most-terms) ⌝ }
     ensures { λ r. ⌜ r ≡ lent-short c limit steps (lent .store) (lent .scratch) (lent .log) ⌝ }
 {
+    let records = c.records;
     let width = (c.m / 64 + 1) as usize + 1;
-    (lent.store < limit * width) | (lent.scratch < 4 * limit * width) | (lent.log < steps)
+    (lent.store < limit * width)
+        | (lent.scratch < most_made(records) * limit * width)
+        | (lent.log < steps)
 }
 
 // The number of the first refusal of counts, table and kind, or 0.

@@ -1,20 +1,22 @@
 -- Which variables occur in a polynomial after steps: none but those that occurred before and those that the gates read; variable 0
 -- never does.
 use mathlib.Core.Path.{_≡_, sym, _∙_}
-use mathlib.Core.Bool.{false, or-true, true≢false}
+use mathlib.Core.Bool.{false}
 use mathlib.Core.List.{List, []}
 use mathlib.Core.Logic.{_⊎_, inl, inr, ⊎-elim}
 use Prim.Native.Nat.{ℕ, suc, _+_, _^_, _<_, _≤_}
 use native.Mathlib.Omega.{arith}
 use lib.ListN.{length, getD}
-use borrow.Author.Tests.{eq-eqb}
-use Rattle.rules.specs.Netlist.{variable, rhs0, rhs1, reads}
+use Rattle.rules.specs.Netlist.{record-at, EveryVariable, reads}
 use Rattle.rules.specs.Values.{width, bit}
 use Rattle.rules.specs.Product.{Kind}
 use Rattle.rules.specs.Polynomial.{Term, Polynomial}
 use Rattle.rules.specs.Steps.{modulus, start-terms, start, step, trail, run, after}
 use Rattle.rules.specs.declared.counts.Counts.{Counts}
+use Rattle.rules.specs.declared.records.Record.{Record}
+use Rattle.rules.specs.declared.records.Record.the-variants.{Gate, Cell}
 use Rattle.rules.proofs.Indices.{below-suc}
+use Rattle.rules.proofs.Sound.{every-variable, reads-others}
 use Rattle.rules.proofs.All.{all-map, all-always}
 use Rattle.rules.proofs.AllSets.{AllSets, Joins, all-start, all-gather, all-step}
 use Rattle.rules.proofs.Bits.{bit-none, bit-put, bit-other, bit-with, bit-without}
@@ -28,29 +30,33 @@ Lacks u s = bit s u ≡ 0
 abbrev pub Absent : ℕ → Polynomial → Type 0
 Absent u = AllSets (Lacks u)
 
+-- what holds of every number holds of every variable of a record
+any-variable : (P : ℕ → Type 0) → ((w : ℕ) → P w) → (r : Record) → EveryVariable P r
+any-variable P holds (Gate x y) = (holds _, holds _)
+any-variable P holds (Cell byte x1 x2 x3) = (holds x1, holds x2, holds x3)
+
 -- a set with another variable put in lacks what it lacked
 lacks-joins : (u v : ℕ) → (0 < v → u ≡ v → ⊥) → Joins (Lacks u) v
 lacks-joins u v other l s h = bit-with s v u (other l) ∙ h
 
 module _ (m : ℕ) (c : Counts) (table : List ℕ) (u : ℕ) where
-  -- after a step of v: v does not occur, nor does what did not occur, unless a literal of v has it
-  step-absent : (v : ℕ) (p : Polynomial) → Joins (Lacks u) (variable (rhs0 c table v)) → Joins (Lacks u) (variable (rhs1 c table v))
+  -- after a step of v: v does not occur, nor does what did not occur, unless v reads it
+  step-absent : (v : ℕ) (p : Polynomial) → EveryVariable (Joins (Lacks u)) (record-at c table v)
       → Absent u p ⊎ (u ≡ v) → Absent u (step m c table v p)
-  step-absent v p first second a =
+  step-absent v p joins a =
       all-step (λ s. Lacks u s ⊎ (u ≡ v)) (Lacks u) m v
       (λ s e h. ⊎-elim (λ (none : Lacks u s). none) (λ (same : u ≡ v). rw same e) h)
-      (λ s e h. bit-without s v u e h) c table first second p
+      (λ s e h. bit-without s v u e h) c table joins p
       (⊎-elim
       (λ (none : Absent u p). all-map p (λ t h. inl h) none)
       (λ (same : u ≡ v). all-always (λ (t : Term). Lacks u (t .1) ⊎ (u ≡ v)) (λ t. inr same) p) a)
 
-  -- the literals of a gate that does not read u have another variable
-  unread-joins : (v : ℕ) → reads c table v u ≡ false → Joins (Lacks u) (variable (rhs0 c table v)) × Joins (Lacks u) (variable (rhs1 c table v))
+  -- a gate that does not read u reads other variables
+  unread-joins : (v : ℕ) → reads c table v u ≡ false → EveryVariable (Joins (Lacks u)) (record-at c table v)
   unfolding reads
-  unread-joins v h = (
-    lacks-joins u (variable (rhs0 c table v)) (λ l e. true≢false (rw (eq-eqb (variable (rhs0 c table v)) u (sym e)) at h)),
-    lacks-joins u (variable (rhs1 c table v)) (λ l e. true≢false (rw (eq-eqb (variable (rhs1 c table v)) u (sym e), or-true) at h)),
-  )
+  unread-joins v h =
+      let r = record-at c table v in
+      every-variable (λ w. w ≡ u → ⊥) (Joins (Lacks u)) (λ w other. lacks-joins u w (λ l e. other (sym e))) r (reads-others r u h)
 
   -- a variable that is replaced, and that no gate from there on reads, does not occur at the end
   pub absent-after : (order : List ℕ) (p : Polynomial) (k : ℕ) → k < length order → getD order k 0 ≡ u
@@ -61,8 +67,7 @@ module _ (m : ℕ) (c : Counts) (table : List ℕ) (u : ℕ) where
     where
       keeps : (j : ℕ) → j < length order → (q : Polynomial) → (k < j → Absent u q) → k < suc j → Absent u (step m c table (getD order j 0) q)
       keeps j lj q h b =
-          let other = unread-joins (getD order j 0) (unread j (omega arith) lj) in
-          step-absent (getD order j 0) q (other .0) (other .1)
+          step-absent (getD order j 0) q (unread-joins (getD order j 0) (unread j (omega arith) lj))
           (⊎-elim (λ (same : k ≡ j). inr (sym (rw same at e))) (λ (before : k < j). inl (h before)) (below-suc k j b))
 
 -- variable 0 is in no set of the run
@@ -70,7 +75,7 @@ pub false-absent : (kind : Kind) (c : Counts) (table order : List ℕ) (k : ℕ)
 unfolding start after run
 false-absent kind c table order =
     trail-keeps (λ j. Absent 0) m c table order
-    (λ j l p none. step-absent m c table 0 (getD order j 0) p (other _) (other _) (inl none))
+    (λ j l p none. step-absent m c table 0 (getD order j 0) p (any-variable (Joins (Lacks 0)) other (record-at c table (getD order j 0))) (inl none))
     (start kind c table)
     (all-gather (Lacks 0) m (start-terms kind c table) (all-start (Lacks 0) kind c table (bit-none 0) (λ i l. other _) two))
   where

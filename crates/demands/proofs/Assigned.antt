@@ -9,13 +9,15 @@ use native.Mathlib.Omega.{arith}
 use lib.ListN.{length, getD, length-append, List·getD-append}
 use lib.Seq.{getD-at, getD-append-add}
 use Rattle.rules.specs.Each.{listed}
-use Rattle.rules.specs.Netlist.{variable, inverted, gate, rhs0, rhs1}
-use Rattle.rules.specs.Values.{width, bit, turned, literal-value, input-values, gate-value, values-to, values}
+use Rattle.rules.specs.Netlist.{variable, inverted, gate, record-at, EveryVariable}
+use Rattle.rules.specs.Values.{width, bit, turned, literal-value, input-values, record-value, gate-value, values-to, values}
 use Rattle.rules.specs.declared.counts.Counts.{Counts}
+use Rattle.rules.specs.declared.records.Record.{Record}
+use Rattle.rules.specs.declared.records.Record.the-variants.{Gate, Cell}
 use Rattle.rules.proofs.All.{all-append}
 use Rattle.rules.proofs.Bits.{digit-cases, bit-digit}
 use Rattle.rules.proofs.Indices.{length-listed, getD-listed}
-use Rattle.rules.proofs.Sound.{RightCounts, SoundTable}
+use Rattle.rules.proofs.Sound.{RightCounts, SoundTable, every-variable}
 use Rattle.demands.proofs.Value.{Digits, digit-at}
 
 -- the bits of a number are digits
@@ -39,10 +41,17 @@ literal-digit vs x d = turned-digit (inverted x) (getD vs (variable x) 0) (digit
 product-digit : (x y : ℕ) → x < 2 → y < 2 → x * y < 2
 product-digit x y h k = digit-cases (λ x. x * y < 2) (rw zero-mul (omega arith)) (rw one-mul k) x h
 
--- a literal has the same value in two lists that agree on its variable
-pub literal-same : (us vs : List ℕ) (x : ℕ) → getD us (variable x) 0 ≡ getD vs (variable x) 0 → literal-value us x ≡ literal-value vs x
-unfolding literal-value
-literal-same us vs x e = rw e
+-- the value of a record is a digit
+record-digit : (vs : List ℕ) (r : Record) → Digits vs → record-value vs r < 2
+unfolding record-value
+record-digit vs (Gate x y) d = product-digit _ _ (literal-digit vs x d) (literal-digit vs y d)
+record-digit vs (Cell byte x1 x2 x3) d = bit-digit byte _
+
+-- a record has the same value in two lists that agree on its variables
+pub record-same : (us vs : List ℕ) (r : Record) → EveryVariable (λ w. getD us w 0 ≡ getD vs w 0) r → record-value us r ≡ record-value vs r
+unfolding record-value literal-value
+record-same us vs (Gate x y) h = rw (h .0, h .1)
+record-same us vs (Cell byte x1 x2 x3) h = rw (h .0, h .1, h .2)
 
 module _ (n a b : ℕ) where
   -- the inputs have 2n + 1 values, with the false one
@@ -89,7 +98,7 @@ module _ (c : Counts) (table : List ℕ) (a b : ℕ) where
       let before = values-to c table a b k in
       let digits = digits-values-to k in
       all-append (λ (x : ℕ). x < 2) before (gate-value c table before (gate c k) ∷ []) digits
-      (product-digit _ _ (literal-digit before (rhs0 c table (gate c k)) digits) (literal-digit before (rhs1 c table (gate c k)) digits), tt)
+      (record-digit before (record-at c table (gate c k)) digits, tt)
 
   -- the values of more gates leave those before
   values-kept : (k n v : ℕ) → k ≤ n → v < 2 * width c + 1 + k → getD (values-to c table a b n) v 0 ≡ getD (values-to c table a b k) v 0
@@ -127,9 +136,9 @@ module _ (c : Counts) (table : List ℕ) (a b : ℕ) where
   unfolding values
   values-length right = length-values-to (c .a) ∙ omega arith
 
-  -- a gate's value is the product of its literals' values
+  -- a gate's value is that of its record
   pub values-gate : RightCounts c → SoundTable c table → (v : ℕ) → c .i < v → v ≤ c .m
-      → getD (values c table a b) v 0 ≡ literal-value (values c table a b) (rhs0 c table v) * literal-value (values c table a b) (rhs1 c table v)
+      → getD (values c table a b) v 0 ≡ record-value (values c table a b) (record-at c table v)
   unfolding values values-to gate-value gate
   values-gate right sound v above below =
       let k = v - (c .i + 1) in
@@ -139,8 +148,9 @@ module _ (c : Counts) (table : List ℕ) (a b : ℕ) where
       let made : getD (values-to c table a b (suc k)) v 0 ≡ gate-value c table before (c .i + 1 + k) =
       getD-at before (gate-value c table before (c .i + 1 + k)) [] 0 v (length-values-to k ∙ omega arith)
       in
-      let same : (x : ℕ) → variable x < v → literal-value before x ≡ literal-value (values-to c table a b (c .a)) x =
-      λ x l. literal-same before (values-to c table a b (c .a)) x (sym (values-kept k (c .a) (variable x) (omega arith) (omega arith)))
+      let all = values-to c table a b (c .a) in
+      let same : EveryVariable (λ w. getD before w 0 ≡ getD all w 0) (record-at c table v) =
+      every-variable (λ w. w < v) _ (λ w l. sym (values-kept k (c .a) w (omega arith) (omega arith))) (record-at c table v) (facts .low)
       in
       values-kept (suc k) (c .a) v (omega arith) (omega arith) ∙ made
-      ∙ rw (own, same (rhs0 c table v) (facts .first-variable), same (rhs1 c table v) (facts .second-variable))
+      ∙ rw own (record-same before all (record-at c table v) same)

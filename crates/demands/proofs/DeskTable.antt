@@ -16,18 +16,19 @@ use Rattle.rules.specs.Text.{line-feed, decimal}
 use Rattle.rules.specs.Reading.{value-from}
 use Rattle.rules.specs.Desk.{desk-table, desk-checks, spaced, printed}
 use Rattle.rules.specs.declared.counts.Counts.{Counts}
+use Rattle.rules.specs.declared.records.RecordKind.the-variants.{Gates}
 use Rattle.rules.proofs.Indices.{both}
 use Rattle.rules.proofs.Sound.{not-wrong}
 use Rattle.demands.specs.Refusals.{First, Unread, header, counts, short, inputs, outputs, gates, after, DeskUnfit, long, kindless, unread, large, unjudged, DeskNeverShort}
 use Rattle.demands.proofs.Digits.{decimal-value, value-append}
+use Rattle.demands.proofs.Tables.{needed-gates}
 use Rattle.demands.proofs.DeskRefused.{desk-refused-exact}
 
 -- O + 2A is at most 64 + 2 · 1,021
-needed-most : (c : Counts) → counts-wrong c ≡ false → needed c ≤ desk-table
-unfolding needed
-needed-most c h =
+needed-most : (c : Counts) → c .records ≡ Gates → counts-wrong c ≡ false → needed c ≤ desk-table
+needed-most c all-gates h =
     let r = not-wrong c h in
-    omega (arith, r .variables, r .most, r .inputs, r .outputs)
+    omega (arith, needed-gates c all-gates, r .variables, r .most, r .inputs, r .outputs)
 
 -- a table with room is not too short
 not-short : (c : Counts) (lent : ℕ) → needed c ≤ lent → table-short c lent ≡ false
@@ -51,7 +52,7 @@ not-first (check ∷ later) k n (inr e) = not-first later k (both (passes k chec
 unread-else : (text : List ℕ) (k : ℕ) → Unread desk-table text k → k ≡ 3 → ⊥
 unread-else text k (header h) e = omega arith
 unread-else text k (counts c h w) e = omega arith
-unread-else text k (short c h w r) e = true≢false (sym r ∙ not-short c desk-table (needed-most c w))
+unread-else text k (short c h w r) e = true≢false (sym r ∙ not-short c desk-table (needed-most c (h .gates) w))
 unread-else text k (inputs c h n) e = omega arith
 unread-else text k (outputs c h b n) e = omega arith
 unread-else text k (gates c h b n) e = omega arith

@@ -8,13 +8,13 @@ use lib.Dec.{ltb}
 use lib.ListN.{getD}
 use lib.Seq.{ext-getD}
 use borrow.Author.Tests.{ltb-true, ltb-false, not-false}
-use Rattle.rules.specs.Netlist.{gate, rhs0, rhs1, counts-wrong, table-unsound}
+use Rattle.rules.specs.Netlist.{gate, record-at, counts-wrong, table-unsound}
 use Rattle.rules.specs.Says.{answers, first}
 use Rattle.rules.specs.Values.{width, values, shown, evaluate-checks, evaluating}
 use Rattle.rules.specs.declared.counts.Counts.{Counts}
-use Rattle.rules.proofs.Sound.{RightCounts, SoundTable, right-counts, sound-table}
+use Rattle.rules.proofs.Sound.{RightCounts, SoundTable, right-counts, sound-table, every-variable}
 use Rattle.demands.specs.Netlists.{Assignment, ValuesAreTheGates}
-use Rattle.demands.proofs.Assigned.{literal-same, values-false, values-first, values-second, values-length, values-gate}
+use Rattle.demands.proofs.Assigned.{record-same, values-false, values-first, values-second, values-length, values-gate}
 use Rattle.demands.proofs.Passed.{answered, none-holds}
 
 module _ (c : Counts) (table : List ℕ) (a b : ℕ) (right : RightCounts c) (sound : SoundTable c table) where
@@ -59,14 +59,10 @@ module _ (c : Counts) (table : List ℕ) (a b : ℕ) (right : RightCounts c) (so
         go true e before = before v (ltb-true v (c .i + 1 + k) e)
         go false e before =
             let own : v ≡ c .i + 1 + k = omega (arith, ltb-false v (c .i + 1 + k) e) in
+            let r = record-at c table (c .i + 1 + k) in
             let facts = sound .gates (c .i + 1 + k) (omega arith) (omega arith) in
-            rw (
-              own,
-              first .gates k h,
-              second .gates k h,
-              literal-same us vs (rhs0 c table (c .i + 1 + k)) (before _ (facts .first-variable)),
-              literal-same us vs (rhs1 c table (c .i + 1 + k)) (before _ (facts .second-variable)),
-            )
+            rw (own, first .gates k h, second .gates k h)
+            (record-same us vs r (every-variable (λ w. w < c .i + 1 + k) (λ w. getD us w 0 ≡ getD vs w 0) before r (facts .low)))
 
     -- so there is one
     one-assignment : us ≡ vs

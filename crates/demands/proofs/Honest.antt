@@ -10,12 +10,12 @@ use lib.Dec.{ltb, eqb}
 use lib.ListN.{length, getD}
 use borrow.Author.Tests.{eq-eqb, ne-eqb, eqb-true, ltb-false, le-ltb, not-true}
 use Rattle.rules.specs.Each.{each, listed}
-use Rattle.rules.specs.Netlist.{counts-right, variable, gate, rhs0, rhs1, table-sound, reads}
+use Rattle.rules.specs.Netlist.{counts-right, gate, record-at, table-sound, reads}
 use Rattle.rules.specs.Steps.{times-named, honest}
 use Rattle.rules.specs.Desk.{falling}
 use Rattle.rules.specs.declared.counts.Counts.{Counts}
 use Rattle.rules.proofs.Indices.{both, and-both, below-suc, each-at, each-all, length-listed, getD-listed}
-use Rattle.rules.proofs.Sound.{right-counts, sound-table}
+use Rattle.rules.proofs.Sound.{right-counts, sound-table, every-variable, others-read}
 use Rattle.demands.specs.Answers.{ReverseHonest}
 
 -- every gate of an order stands before those that it reads
@@ -82,12 +82,6 @@ times-once v (suc n) value i l e only =
     (λ (k : i < n). rw (times-once v n value i k e (λ j b q. only j (omega arith) q), ne-eqb (value n) v (λ q. omega (arith, only n (omega arith) q))))
     (below-suc i n l)
 
--- a gate does not read a variable that neither of its literals has
-reads-none : (c : Counts) (table : List ℕ) (w v : ℕ) → (variable (rhs0 c table w) ≡ v → ⊥) → (variable (rhs1 c table w) ≡ v → ⊥)
-    → reads c table w v ≡ false
-unfolding reads
-reads-none c table w v first second = rw (ne-eqb (variable (rhs0 c table w)) v first, ne-eqb (variable (rhs1 c table w)) v second)
-
 module _ (c : Counts) (table : List ℕ) (right : counts-right c ≡ true) (sound : table-sound c table ≡ true) where
   -- the gate at an index of the falling order
   gate-at : (k : ℕ) → k < c .a → getD (falling c) k 0 ≡ c .m - k
@@ -103,11 +97,13 @@ module _ (c : Counts) (table : List ℕ) (right : counts-right c ≡ true) (soun
 
   -- and before those that it reads, for they are smaller
   falls : (j k : ℕ) → j < c .a → k < c .a → k ≤ j → reads c table (getD (falling c) j 0) (getD (falling c) k 0) ≡ false
+  unfolding reads
   falls j k lj lk h =
       let sums = right-counts c right .variables in
       let below = sound-table c table sound .gates (c .m - j) (omega arith) (omega arith) in
+      let r = record-at c table (c .m - j) in
       rw (gate-at j lj, gate-at k lk)
-      (reads-none c table (c .m - j) (c .m - k) (λ e. omega (arith, below .first-variable)) (λ e. omega (arith, below .second-variable)))
+      (others-read r (c .m - k) (every-variable (λ w. w < c .m - j) (λ w. w ≡ c .m - k → ⊥) (λ w l e. omega arith) r (below .low)))
 
 -- M down to I + 1 is an honest order
 pub reverse-honest : ReverseHonest

@@ -1,15 +1,26 @@
 -- What a step makes at most, and that an idle step changes nothing.
 use mathlib.Core.Path.{_≡_, refl, sym}
-use mathlib.Core.List.{[], _∷_}
-use Prim.Native.Nat.{ℕ, zero, suc, _-_, _*_, _^_, _<_, _≤_}
+use mathlib.Core.Bool.{Bool, true, false, cond}
+use mathlib.Core.List.{List, [], _∷_}
+use Prim.Native.Nat.{ℕ, zero, suc, _+_, _-_, _*_, _^_, _<_, _≤_}
+use native.Mathlib.Nat.{mul-suc}
 use native.Mathlib.Omega.{arith}
+use lib.Dec.{eqb}
+use lib.IntN.{ℤ}
 use lib.ListN.{length, getD, length-append}
-use Rattle.rules.specs.Netlist.{variable, inverted, rhs0, rhs1}
+use Rattle.rules.specs.Each.{joined}
+use Rattle.rules.specs.Netlist.{variable, inverted, rhs0, rhs1, record-of, record-at}
 use Rattle.rules.specs.Values.{bit}
-use Rattle.rules.specs.Polynomial.{Term, Polynomial, times-variable, times-literal}
-use Rattle.rules.specs.Steps.{where-held, replaced, all-replaced, step}
+use Rattle.rules.specs.Polynomial.{Term, Polynomial, times-variable, times-literal, times-chosen}
+use Rattle.rules.specs.Cells.{above, below, scaled}
+use Rattle.rules.specs.Steps.{where-held, times-subset, times-whole, times-record, replaced, all-replaced, step}
+use Rattle.rules.specs.Judging.{most-made}
+use Rattle.rules.specs.declared.counts.Counts.{Counts}
+use Rattle.rules.specs.declared.records.Record.{Record}
+use Rattle.rules.specs.declared.records.RecordKind.{RecordKind}
+use Rattle.rules.specs.declared.records.RecordKind.the-variants.{Gates, Cells}
 use Rattle.rules.proofs.Gathered.{unique, under-of}
-use Rattle.demands.specs.Polynomials.{FourTerms, StepIdle}
+use Rattle.demands.specs.Polynomials.{TermsMade, StepIdle}
 
 -- a term times a literal makes at most two
 two-of-a-term : (m v n : ℕ) (t : Term) → length (times-variable m v n t) ≤ 2
@@ -26,32 +37,68 @@ two-of-each m x [] = omega arith
 two-of-each m x (t ∷ p) =
     simp length-append (omega (arith, two-of-a-term m (variable x) (inverted x) t, two-of-each m x p))
 
--- a term with v replaced makes at most four
-four-of-a-term : (m v x y : ℕ) (t : Term) → length (replaced m v x y t) ≤ 4
-unfolding replaced where-held
-four-of-a-term m v x y t = go (bit (t .1) v)
-  where
-    go : (d : ℕ) → length (where-held d (t ∷ []) (times-literal m x (times-literal m y ((t .0, t .1 - 2 ^ v) ∷ [])))) ≤ 4
-    go zero = omega arith
-    go (suc d) =
-        omega
-        (arith, two-of-each m x (times-literal m y ((t .0, t .1 - 2 ^ v) ∷ [])), two-of-each m y ((t .0, t .1 - 2 ^ v) ∷ []))
+-- a polynomial times a variable, where it is chosen, has no more terms
+one-of-each : (d v : ℕ) (p : Polynomial) → length (times-chosen d v p) ≤ length p
+unfolding times-chosen
+one-of-each zero v p = omega arith
+one-of-each (suc d) v [] = omega arith
+one-of-each (suc d) zero (t ∷ p) = omega arith
+one-of-each (suc d) (suc v) (t ∷ p) = omega (arith, one-of-each (suc d) (suc v) p)
 
--- one step makes at most four terms of each term
-pub four-terms : FourTerms
-unfolding all-replaced
-four-terms m v x y [] = omega arith
-four-terms m v x y (t ∷ p) = simp length-append (omega (arith, four-of-a-term m v x y t, four-terms m v x y p))
+-- lists of at most one term, one behind the other
+one-at-each : (n : ℕ) (list : ℕ → Polynomial) → ((i : ℕ) → length (list i) ≤ 1) → length (joined n list) ≤ n
+unfolding joined
+one-at-each zero list h = omega arith
+one-at-each (suc n) list h = simp length-append (omega (arith, one-at-each n list h, h n))
+
+-- a term times a whole number and a subset makes at most one
+one-of-a-whole : (m : ℕ) (z : ℤ) (u x1 x2 x3 : ℕ) (t : Term) → length (times-whole m z u x1 x2 x3 t) ≤ 1
+unfolding times-whole times-subset
+one-of-a-whole m z u x1 x2 x3 t = go (eqb (above z + below z) 0)
+  where
+    third : Polynomial
+    third = times-chosen (bit u 2) x3 ((scaled m z (t .0), t .1) ∷ [])
+
+    second : Polynomial
+    second = times-chosen (bit u 1) x2 third
+
+    go : (none : Bool) → length (cond none [] (times-chosen (bit u 0) x1 second)) ≤ 1
+    go true = omega arith
+    go false =
+        omega (arith, one-of-each (bit u 0) x1 second, one-of-each (bit u 1) x2 third, one-of-each (bit u 2) x3 ((scaled m z (t .0), t .1) ∷ []))
+
+-- a term times a record makes at most four, and at most eight where the record is a lookup cell
+most-of-a-term : (m : ℕ) (kind : RecordKind) (c : Counts) (table : List ℕ) (v : ℕ) (t : Term)
+    → (0 < most-made kind) × (length (times-record m (record-of kind c table v) t) ≤ most-made kind)
+unfolding times-record record-of most-made
+most-of-a-term m Gates c table v t =
+    let once = times-literal m (rhs1 c table v) (t ∷ []) in
+    (omega arith, omega (arith, two-of-each m (rhs0 c table v) once, two-of-each m (rhs1 c table v) (t ∷ [])))
+most-of-a-term m Cells c table v t = (omega arith, one-at-each 8 _ (λ u. one-of-a-whole m _ u _ _ _ t))
+
+-- one step makes at most that many of each term
+pub terms-made : TermsMade
+unfolding all-replaced replaced where-held record-at
+terms-made m c table v [] = omega arith
+terms-made m c table v (t ∷ p) =
+    simp length-append (omega (arith, go (bit (t .1) v), terms-made m c table v p, mul-suc (most-made (c .records)) (length p)))
+  where
+    most : (t : Term) → (0 < most-made (c .records)) × (length (times-record m (record-at c table v) t) ≤ most-made (c .records))
+    most = most-of-a-term m (c .records) c table v
+
+    go : (d : ℕ) → length (where-held d (t ∷ []) (times-record m (record-at c table v) (t .0, t .1 - 2 ^ v))) ≤ most-made (c .records)
+    go zero = omega (arith, most t .0)
+    go (suc d) = most (t .0, t .1 - 2 ^ v) .1
 
 -- where v does not occur nothing is replaced
-replaced-nowhere : (m v x y : ℕ) (p : Polynomial) → ((i : ℕ) → i < length p → bit (getD p i (0, 0) .1) v ≡ 0) → all-replaced m v x y p ≡ p
+replaced-nowhere : (m v : ℕ) (r : Record) (p : Polynomial) → ((i : ℕ) → i < length p → bit (getD p i (0, 0) .1) v ≡ 0) → all-replaced m v r p ≡ p
 unfolding all-replaced replaced where-held
-replaced-nowhere m v x y [] none = refl
-replaced-nowhere m v x y (t ∷ p) none = rw (none 0 (omega arith), replaced-nowhere m v x y p (λ i l. none (suc i) (omega arith)))
+replaced-nowhere m v r [] none = refl
+replaced-nowhere m v r (t ∷ p) none = rw (none 0 (omega arith), replaced-nowhere m v r p (λ i l. none (suc i) (omega arith)))
 
 -- and nothing changes
 pub step-idle : StepIdle
 unfolding step
 step-idle m c table v b p above falls coefficients none =
-    rw (replaced-nowhere m v (rhs0 c table v) (rhs1 c table v) p none)
+    rw (replaced-nowhere m v (record-at c table v) p none)
     (sym (unique m b p p above falls coefficients (under-of b b p (omega arith) falls) (λ u. refl)))

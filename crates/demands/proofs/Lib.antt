@@ -20,6 +20,7 @@ pub mod Times
 pub mod Operands
 pub mod Published
 pub mod StartValue
+pub mod RecordValue
 pub mod StepKeeps
 pub mod Idle
 pub mod StepShape

@@ -9,10 +9,11 @@ use lib.ListN.{length, getD, drop, length-drop, List·getD-append}
 use lib.Seq.{getD-append-add, getD-drop}
 use borrow.Author.Tests.{eqb-true, eq-eqb, ltb-true, leb-true}
 use Rattle.rules.specs.Each.{every}
-use Rattle.rules.specs.Netlist.{gate, output, rhs0, rhs1, output-sound, gate-sound}
+use Rattle.rules.specs.Netlist.{gate, output, rhs0, rhs1, record-of, record-at, output-sound, gate-sound, record-sound}
 use Rattle.rules.specs.Text.{line-feed, space, header-word, fields-text, header-text, input-text, output-text, gate-text}
 use Rattle.rules.specs.Reading.{found, word, fields, digit, tested, header-line, input-line, output-line, gate-line, counts-of}
 use Rattle.rules.specs.declared.counts.Counts.{Counts}
+use Rattle.rules.specs.declared.records.RecordKind.the-variants.{Gates}
 use Rattle.rules.proofs.Indices.{both, and-both}
 use Rattle.demands.specs.Refusals.{FourDigits}
 use Rattle.demands.proofs.Scans.{then-back, then-forth, word-back, word-forth, tested-back, tested-forth}
@@ -109,12 +110,18 @@ pub output-forth : (c : Counts) (table : List ℕ) (k : ℕ) (rest : List ℕ) �
 unfolding output-line output-text every digit
 output-forth c table k rest h s = line-forth _ _ (line-feed ∷ []) (output table k ∷ []) rest refl refl (h, tt) s
 
+-- in a table of AND gates the rules of a record are those of its two literals
+gates-rules : (c : Counts) → c .records ≡ Gates → (table : List ℕ) (v : ℕ)
+    → record-sound v (record-at c table v) ≡ gate-sound v (rhs0 c table v) (rhs1 c table v)
+unfolding record-at record-of record-sound
+gates-rules c gates table v = rw gates
+
 -- a text in which a gate line is found begins with it, and its literals are right words of the table
-pub gate-back : (c : Counts) (k : ℕ) (text words rest : List ℕ) → gate-line c k text ≡ found words rest
-    → Part 2 (c .o + 2 * k) (λ table. gate-sound (gate c k) (rhs0 c table (gate c k)) (rhs1 c table (gate c k))) (λ table. gate-text c table (gate c k))
+pub gate-back : (c : Counts) → c .records ≡ Gates → (k : ℕ) (text words rest : List ℕ) → gate-line c k text ≡ found words rest
+    → Part 2 (c .o + 2 * k) (λ table. record-sound (gate c k) (record-at c table (gate c k))) (λ table. gate-text c table (gate c k))
     text words rest
 unfolding gate-line gate-text rhs0 rhs1 gate
-gate-back c k text words rest e =
+gate-back c gates k text words rest e =
     let line = line-back _ _ (space ∷ space ∷ line-feed ∷ []) text words rest e in
     let tests = both (eqb (getD (line .0) 0 0) (2 * gate c k)) (gate-sound (gate c k) (getD (line .0) 1 0) (getD (line .0) 2 0)) (line .2) in
     whole (line .0) (line .1) (eqb-true _ _ (tests .0)) (tests .1) (line .3) (line .4)
@@ -122,8 +129,8 @@ gate-back c k text words rest e =
     whole : (numbers : List ℕ) → length numbers ≡ 3 → getD numbers 0 0 ≡ 2 * gate c k
         → gate-sound (gate c k) (getD numbers 1 0) (getD numbers 2 0) ≡ true → words ≡ drop 1 numbers
         → text ≡ fields-text ((getD numbers 0 0, space) ∷ (getD numbers 1 0, space) ∷ (getD numbers 2 0, line-feed) ∷ []) ++ rest
-        → Part 2 (c .o + 2 * k) (λ table. gate-sound (gate c k) (rhs0 c table (gate c k)) (rhs1 c table (gate c k)))
-        (λ table. gate-text c table (gate c k)) text words rest
+        → Part 2 (c .o + 2 * k) (λ table. record-sound (gate c k) (record-at c table (gate c k))) (λ table. gate-text c table (gate c k))
+        text words rest
     whole numbers l e s w t =
         let size : length (drop 1 numbers) ≡ 2 = rw length-drop (omega arith) in
         let first : (front later : List ℕ) → length front ≡ c .o + 2 * k
@@ -135,18 +142,19 @@ gate-back c k text words rest e =
         rw w
         (record {
           long = size;
-          sound = λ front later h. rw (first front later h, second front later h) s;
+          sound = λ front later h. rw (gates-rules c gates, first front later h, second front later h) s;
           written = λ front later h. rw (first front later h, second front later h, ← e) t;
         })
 
 -- a right gate line is found
-pub gate-forth : (c : Counts) (table : List ℕ) (k : ℕ) (rest : List ℕ) → 2 * gate c k < 10000
-    → gate-sound (gate c k) (rhs0 c table (gate c k)) (rhs1 c table (gate c k)) ≡ true
+pub gate-forth : (c : Counts) → c .records ≡ Gates → (table : List ℕ) (k : ℕ) (rest : List ℕ) → 2 * gate c k < 10000
+    → record-sound (gate c k) (record-at c table (gate c k)) ≡ true
     → gate-line c k (gate-text c table (gate c k) ++ rest) ≡ found (rhs0 c table (gate c k) ∷ rhs1 c table (gate c k) ∷ []) rest
 unfolding gate-line gate-text gate-sound every digit
-gate-forth c table k rest h s =
+gate-forth c gates table k rest h sound =
     let x : ℕ = rhs0 c table (gate c k) in
     let y : ℕ = rhs1 c table (gate c k) in
+    let s : gate-sound (gate c k) x y ≡ true = rw (gates-rules c gates table (gate c k)) at sound in
     let parts = both (ltb x (2 * gate c k)) (leb y x) s in
     let low : x < 2 * gate c k = ltb-true x _ (parts .0) in
     let lower : y ≤ x = leb-true y x (parts .1) in

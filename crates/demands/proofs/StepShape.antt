@@ -11,7 +11,7 @@ use lib.Dec.{ltb, leb}
 use lib.ListN.{length, getD}
 use lib.Pow.{pow-pos, pow-lt, pow-mono}
 use Rattle.rules.specs.Each.{every}
-use Rattle.rules.specs.Netlist.{rhs0, rhs1}
+use Rattle.rules.specs.Netlist.{record-at}
 use Rattle.rules.specs.Values.{width, values}
 use Rattle.rules.specs.Product.{Kind}
 use Rattle.rules.specs.Polynomial.{Polynomial, Below, Coefficients, gather}
@@ -20,7 +20,7 @@ use Rattle.rules.specs.Judging.{is-gate}
 use Rattle.rules.specs.declared.counts.Counts.{Counts}
 use Rattle.rules.proofs.Indices.{both, every-at}
 use Rattle.rules.proofs.Gathered.{gather-below, gather-coefficients}
-use Rattle.rules.proofs.Sound.{RightCounts, SoundTable}
+use Rattle.rules.proofs.Sound.{RightCounts, SoundTable, every-variable}
 use Rattle.rules.proofs.AllSets.{AllSets, Joins, sets-under, all-gather, all-start, all-terms-replaced}
 use Rattle.rules.proofs.Bits.{with-variable-under}
 use Rattle.rules.proofs.Trails.{trail-keeps}
@@ -72,9 +72,10 @@ module _ (kind : Kind) (c : Counts) (table : List ℕ) (right : RightCounts c) (
   unfolding step
   step-shape v above below p h =
       let facts = sound .gates v above (omega (arith, right .variables)) in
-      gather-shape kind c (all-replaced (modulus kind c) v (rhs0 c table v) (rhs1 c table v) p)
-      (all-terms-replaced (UpTo c) (UpTo c) (modulus kind c) v (λ s e k. k) (λ s e k. omega arith) (rhs0 c table v) (rhs1 c table v)
-      (up-to-joins c _ (omega arith)) (up-to-joins c _ (omega arith)) p h)
+      let r = record-at c table v in
+      gather-shape kind c (all-replaced (modulus kind c) v r p)
+      (all-terms-replaced (UpTo c) (UpTo c) (modulus kind c) v (λ s e k. k) (λ s e k. omega arith) r
+      (every-variable (λ w. w < v) (Joins (UpTo c)) (λ w l. up-to-joins c w (omega arith)) r (facts .low)) p h)
 
   -- the set of a product term holds inputs
   product-under : (i j : ℕ) → i < width c → j < width c → UpTo c (2 ^ (1 + i) + 2 ^ (width c + 1 + j))

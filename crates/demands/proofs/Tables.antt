@@ -10,10 +10,11 @@ use lib.ListN.{length, getD, take}
 use lib.Seq.{take-suc, take-all}
 use borrow.Author.Tests.{leb-true}
 use Rattle.rules.specs.Each.{each, joined}
-use Rattle.rules.specs.Netlist.{gate, output, rhs0, rhs1, needed, output-sound, gate-sound, table-sound}
+use Rattle.rules.specs.Netlist.{gate, output, rhs0, rhs1, record-at, record-words, needed, output-sound, record-sound, table-sound}
 use Rattle.rules.specs.Text.{header-text, input-text, output-text, gate-text, text-of}
 use Rattle.rules.specs.Reading.{found, input-line, output-line, gate-line, lines}
 use Rattle.rules.specs.declared.counts.Counts.{Counts}
+use Rattle.rules.specs.declared.records.RecordKind.the-variants.{Gates}
 use Rattle.rules.proofs.Indices.{each-at}
 use Rattle.rules.proofs.Sound.{RightCounts}
 use Rattle.demands.specs.Refusals.{FourDigits, inputs-part, outputs-part}
@@ -50,7 +51,7 @@ outputs-right c table = each (c .o) (λ k. output-sound c (output table k))
 
 -- every gate does
 abbrev pub gates-right : Counts → List ℕ → Bool
-gates-right c table = each (c .a) (λ k. gate-sound (gate c k) (rhs0 c table (gate c k)) (rhs1 c table (gate c k)))
+gates-right c table = each (c .a) (λ k. record-sound (gate c k) (record-at c table (gate c k)))
 
 -- the text of the gate lines
 abbrev pub gates-text : Counts → List ℕ → List ℕ
@@ -80,30 +81,34 @@ outputs-forth c table rest h s =
     output-forth c table k rest (omega (arith, leb-true (output table k) (2 * c .m + 1) right)) right)
     rest
 
+-- a table of AND gates needs O + 2A words
+pub needed-gates : (c : Counts) → c .records ≡ Gates → needed c ≡ c .o + 2 * c .a
+unfolding needed record-words
+needed-gates c all-gates = rw all-gates
+
 -- a text in which output lines and then gate lines are found is that of a sound table, which their words are
-pub table-back : (c : Counts) (text words middle later rest : List ℕ) → lines (c .o) (output-line c) text ≡ found words middle
+pub table-back : (c : Counts) → c .records ≡ Gates → (text words middle later rest : List ℕ) → lines (c .o) (output-line c) text ≡ found words middle
     → lines (c .a) (gate-line c) middle ≡ found later rest
     → (length (words ++ later) ≡ needed c) × (table-sound c (words ++ later) ≡ true) × (inputs-part c ++ text ≡ text-of c (words ++ later) ++ rest)
-unfolding needed table-sound text-of
-table-back c text words middle later rest e f =
+unfolding table-sound text-of
+table-back c all-gates text words middle later rest e f =
     let gates =
     lines-back (gate-line c) (λ table k. gate-text c table (gate c k))
-    (λ table k. gate-sound (gate c k) (rhs0 c table (gate c k)) (rhs1 c table (gate c k))) (c .o) 2 (gate-back c) (c .a) middle later rest f in
+    (λ table k. record-sound (gate c k) (record-at c table (gate c k))) (c .o) 2 (gate-back c all-gates) (c .a) middle later rest f in
     let all =
     part-then (1 * c .o) (2 * c .a) 0 (c .o) (outputs-right c) (gates-right c) (λ table. joined (c .o) (output-text table)) (gates-text c)
     text words middle later rest (omega arith) (outputs-part-back c text words middle e) gates in
     let whole = part-first _ _ _ text (words ++ later) rest all in
-    (all .long ∙ omega arith, whole .0, ap (λ (l : List ℕ). inputs-part c ++ l) (whole .1) ∙ simp append-assoc)
+    (omega (arith, all .long, needed-gates c all-gates), whole .0, ap (λ (l : List ℕ). inputs-part c ++ l) (whole .1) ∙ simp append-assoc)
 
 -- right gate lines are found
-pub gates-forth : (c : Counts) (table rest : List ℕ) → RightCounts c → gates-right c table ≡ true
+pub gates-forth : (c : Counts) → c .records ≡ Gates → (table rest : List ℕ) → RightCounts c → gates-right c table ≡ true
     → lines (c .a) (gate-line c) (gates-text c table ++ rest) ≡ found (gate-words c table) rest
 unfolding gate
-gates-forth c table rest h s =
+gates-forth c all-gates table rest h s =
     lines-forth (gate-line c) _ _ (c .a)
     (λ k l rest.
-    gate-forth c table k rest (omega arith)
-    (each-at (c .a) (λ k. gate-sound (gate c k) (rhs0 c table (gate c k)) (rhs1 c table (gate c k))) s k l))
+    gate-forth c all-gates table k rest (omega arith) (each-at (c .a) (λ k. record-sound (gate c k) (record-at c table (gate c k))) s k l))
     rest
 
 -- the words of the output lines are the first of the table
@@ -131,8 +136,8 @@ next-words c table (suc k) h =
     place i o k = omega arith
 
 -- together they are the table
-pub all-words : (c : Counts) (table : List ℕ) → length table ≡ needed c → output-words c table ++ gate-words c table ≡ table
-unfolding needed
-all-words c table h =
+pub all-words : (c : Counts) → c .records ≡ Gates → (table : List ℕ) → length table ≡ needed c → output-words c table ++ gate-words c table ≡ table
+all-words c all-gates table h =
+    let size : length table ≡ c .o + 2 * c .a = h ∙ needed-gates c all-gates in
     rw (first-words table (c .o) (omega arith))
     (next-words c table (c .a) (omega arith) ∙ take-all (c .o + 2 * c .a) table (omega arith))

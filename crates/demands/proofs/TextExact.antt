@@ -1,40 +1,29 @@
 -- A text is accepted with counts and words exactly when it is the text of these.
 use mathlib.Core.Path.{_≡_, refl, ap, sym, _∙_}
-use mathlib.Core.List.{List, [], _∷_, _++_}
+use mathlib.Core.List.{List, _++_}
 use Prim.Native.Nat.{ℕ}
 use lib.ListN.{length, take, drop}
 use lib.Seq.{take-at}
 use Rattle.rules.specs.Netlist.{needed}
-use Rattle.rules.specs.Says.{answers, text-says}
+use Rattle.rules.specs.Says.{text-says, text-records}
 use Rattle.rules.specs.Reading.{Netlist, netlist, refused, reading, reading-says, table-after}
-use Rattle.rules.specs.declared.answers.Text.{Text}
-use Rattle.rules.specs.declared.answers.Text.the-variants.{Read, Refused}
+use Rattle.rules.specs.declared.answers.Text.the-variants.{Read}
 use Rattle.rules.specs.declared.counts.Counts.{Counts}
+use Rattle.rules.specs.declared.records.RecordKind.the-variants.{Gates}
+use Rattle.rules.proofs.OneOutcome.{text-known}
 use Rattle.demands.specs.Netlists.{TextExact, Written}
 use Rattle.demands.proofs.Passed.{apart}
-use Rattle.demands.proofs.Readings.{said, written-read}
-
--- counts are the same where their five numbers are
-same-counts : (c d : Counts) → answers 0 (c .m ∷ c .i ∷ c .l ∷ c .o ∷ c .a ∷ []) ≡ answers 0 (d .m ∷ d .i ∷ d .l ∷ d .o ∷ d .a ∷ []) → c ≡ d
-same-counts c d e =
-    let m : c .m ≡ d .m = cc in
-    let i : c .i ≡ d .i = cc in
-    let l : c .l ≡ d .l = cc in
-    let o : c .o ≡ d .o = cc in
-    let a : c .a ≡ d .a = cc in
-    λ k. record { m = m k; i = i k; l = l k; o = o k; a = a k }
+use Rattle.demands.proofs.Readings.{Outcome, said, written-read}
 
 -- what is answered with counts was read with them
-read-with : (n : Netlist) (c : Counts) → text-says (Read c) ≡ reading-says n → (words : List ℕ) × (n ≡ netlist c words)
-unfolding text-says reading-says
-read-with (netlist d words) c e = (words, ap (λ (c : Counts). netlist c words) (sym (same-counts c d e)))
-read-with (refused k) c e = apart 0 k _ e
-
--- what was read with counts is answered with them
-answered : (r : Text) (c : Counts) (words : List ℕ) → text-says r ≡ reading-says (netlist c words) → r ≡ Read c
-unfolding text-says reading-says
-answered (Read d) c words e = ap Read (same-counts d c e)
-answered (Refused k) c words e = apart 0 k _ (sym e)
+read-with : (lent : ℕ) (text : List ℕ) (n : Netlist) (c : Counts) → c .records ≡ Gates → Outcome lent text n
+    → text-says (Read c) ≡ reading-says n → (words : List ℕ) × (n ≡ netlist c words)
+unfolding text-says text-records reading-says
+read-with lent text (netlist d words) c gates so e =
+    let same : Read c ≡ Read d = text-known (Read c) (Read d) (gates ∙ sym (so .gates)) e in
+    let own : d ≡ c = cc in
+    (words, ap (λ (c : Counts). netlist c words) own)
+read-with lent text (refused k) c gates so e = apart 0 k _ e
 
 -- parts of one length that begin the same list are the same
 begin-same : (a b x y : List ℕ) → length a ≡ length b → a ++ x ≡ b ++ y → a ≡ b
@@ -42,7 +31,7 @@ begin-same a b x y l e = sym (take-at a x (length b) l) ∙ ap (take (length b))
 
 -- what is read is what is written
 pub text-exact : TextExact
-unfolding table-after
+unfolding table-after text-says text-records reading-says
 text-exact text lent r exit h c table = (there, back)
   where
     words-of : (words : List ℕ) → reading (length lent) text ≡ netlist c words → length words ≡ needed c → exit ≡ words ++ drop (needed c) lent
@@ -51,7 +40,8 @@ text-exact text lent r exit h c table = (there, back)
 
     there : (r ≡ Read c) × (exit ≡ table ++ drop (needed c) lent) × (length table ≡ needed c) → Written text (length lent) c table
     there (e, x, l) =
-        let (words, known) = read-with (reading (length lent) text) c (rw e at (h .said)) in
+        let (words, known) =
+        read-with (length lent) text (reading (length lent) text) c (rw e at (h .records)) (said (length lent) text) (rw e at (h .said)) in
         let so : Written text (length lent) c words = rw known at (said (length lent) text) in
         let same : table ≡ words = begin-same table words _ _ (l ∙ sym (so .words)) (sym x ∙ words-of words known (so .words)) in
         rw same so
@@ -59,4 +49,4 @@ text-exact text lent r exit h c table = (there, back)
     back : Written text (length lent) c table → (r ≡ Read c) × (exit ≡ table ++ drop (needed c) lent) × (length table ≡ needed c)
     back so =
         let e : reading (length lent) text ≡ netlist c table = written-read (length lent) text c table so in
-        (answered r c table (rw e at (h .said)), words-of table e (so .words), so .words)
+        (text-known r (Read c) (h .records ∙ sym (so .gates)) (rw e at (h .said)), words-of table e (so .words), so .words)

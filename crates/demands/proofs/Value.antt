@@ -62,7 +62,7 @@ digit-square : (x : ℕ) → x < 2 → x * x ≡ x
 digit-square = digit-cases (λ x. x * x ≡ x) refl refl
 
 -- a set with a variable in it has its value times the variable's: x·x is x
-set-value-with : (vs : List ℕ) (s v : ℕ) → Digits vs → v < length vs → set-value vs (with-variable s v) ≡ set-value vs s * getD vs v 0
+pub set-value-with : (vs : List ℕ) (s v : ℕ) → Digits vs → v < length vs → set-value vs (with-variable s v) ≡ set-value vs s * getD vs v 0
 set-value-with vs s v d l =
     with-cases (λ t. set-value vs t ≡ set-value vs s * getD vs v 0) s v
     (λ e. rw (set-value-out vs s v e l, mul-right-comm, digit-square (getD vs v 0) (digit-at vs d v)))

@@ -5,11 +5,12 @@ use mathlib.Core.List.{List, [], _∷_, _++_}
 use Prim.Native.Nat.{ℕ, zero, suc, _+_, _-_, _*_, _/_, _%_, _^_, _<_, _≤_}
 use lib.ListN.{length, getD}
 use Rattle.rules.specs.Each.{joined}
-use Rattle.rules.specs.Netlist.{output, counts-right, table-sound}
+use Rattle.rules.specs.Netlist.{output, record-at, counts-right, table-sound}
 use Rattle.rules.specs.Values.{width, bit, values, shown}
 use Rattle.rules.specs.Product.{Kind, plain, signed, truncated, outputs-of, product}
 use Rattle.rules.specs.Polynomial.{Term, Polynomial, Below, Under, Coefficients, gather, times-literal}
 use Rattle.rules.specs.Steps.{modulus, start, all-replaced, step}
+use Rattle.rules.specs.Judging.{most-made}
 use Rattle.rules.specs.declared.counts.Counts.{Counts}
 
 -- x where the digit is 1, else 1
@@ -84,9 +85,11 @@ Published =
     (kind : Kind) (c : Counts) (table : List ℕ) → counts-right c ≡ true → c .o ≡ outputs-of kind (width c)
     → gather (modulus kind c) (specification kind (modulus kind c) (width c) table) ≡ start kind c table
 
--- one step makes at most four terms of each term, before gathering
-abbrev pub FourTerms : Type 0
-FourTerms = (m v x y : ℕ) (p : Polynomial) → length (all-replaced m v x y p) ≤ 4 * length p
+-- one step makes at most four terms of each term, or eight with lookup cells, before gathering
+abbrev pub TermsMade : Type 0
+TermsMade =
+    (m : ℕ) (c : Counts) (table : List ℕ) (v : ℕ) (p : Polynomial)
+    → length (all-replaced m v (record-at c table v) p) ≤ most-made (c .records) * length p
 
 -- if v does not occur, a step of it changes nothing
 abbrev pub StepIdle : Type 0

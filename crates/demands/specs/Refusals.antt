@@ -20,6 +20,7 @@ use Rattle.rules.specs.declared.answers.StepRecord.{StepRecord}
 use Rattle.rules.specs.declared.answers.Text.{Text}
 use Rattle.rules.specs.declared.answers.Word.{Word}
 use Rattle.rules.specs.declared.counts.Counts.{Counts}
+use Rattle.rules.specs.declared.records.RecordKind.the-variants.{Gates}
 use Rattle.demands.specs.Netlists.{Written}
 
 -- k is the number of a check whose condition holds, and no check before it has one that holds
@@ -58,9 +59,10 @@ pub record FourDigits (c : Counts) : Type 0 where
   pub o : c .o < 10000
   pub a : c .a < 10000
 
--- a text begins with the header line of these counts
+-- a text begins with the header line of these counts, which are of AND gates: a text has no lookup cells
 pub record Headed (text : List ℕ) (c : Counts) : Type 0 where
   pub digits : FourDigits c
+  pub gates : c .records ≡ Gates
   pub begins : Begins text (header-text c)
 
 -- and the counts are within their limits, and the table is long enough

@@ -8,6 +8,7 @@ use Rattle.rules.specs.declared.answers.Answer.{Answer}
 use Rattle.rules.specs.declared.answers.Answer.the-variants.{Equal, Unfinished, Refused}
 use Rattle.rules.specs.declared.answers.StepRecord.{StepRecord}
 use Rattle.rules.specs.declared.counts.Counts.{Counts}
+use Rattle.rules.specs.declared.records.RecordKind.the-variants.{Gates}
 
 -- a plain block at T = 128, with buffers just long enough for sets of one word and every word 77
 unfoldable pub handed : Counts → List ℕ → List ℕ → ℕ → Inputs
@@ -25,7 +26,7 @@ handed c table order steps =
 
 -- AND with these two outputs
 unfoldable pub and-block : ℕ → ℕ → List ℕ → ℕ → Inputs
-and-block first second = handed (record { m = 3; i = 2; l = 0; o = 2; a = 1 }) (first ∷ second ∷ 4 ∷ 2 ∷ [])
+and-block first second = handed (record { m = 3; i = 2; l = 0; o = 2; a = 1; records = Gates }) (first ∷ second ∷ 4 ∷ 2 ∷ [])
 
 -- P1, P3, P6 and P10
 unfoldable pub p1 : Inputs
@@ -40,7 +41,7 @@ p6 = and-block 6 0 [] 0
 unfoldable pub p10 : Inputs
 p10 =
     handed
-    (record { m = 14; i = 4; l = 0; o = 4; a = 10 })
+    (record { m = 14; i = 4; l = 0; o = 4; a = 10; records = Gates })
     (10 ∷ 22 ∷ 28 ∷ 24 ∷ 6 ∷ 2 ∷ 8 ∷ 2 ∷ 6 ∷ 4 ∷ 8 ∷ 4 ∷ 14 ∷ 12 ∷ 15 ∷ 13 ∷ 21 ∷ 19 ∷ 18 ∷ 16 ∷ 19 ∷ 17 ∷ 27 ∷ 25 ∷ [])
     (14 ∷ 13 ∷ 12 ∷ 11 ∷ 10 ∷ 9 ∷ 8 ∷ 7 ∷ 6 ∷ 5 ∷ [])
     10

@@ -5,6 +5,7 @@ ghost use Rattle.rules.specs.Limits.{most-desk-variables};
 ghost use Rattle.rules.specs.Reading.{reading};
 ghost use Rattle.rules.specs.Says.{says};
 ghost use Rattle.rules.specs.Desk.{desk-table, desk-judging, desk-read};
+ghost use Rattle.rules.specs.declared.records.RecordKind.the-variants.{Gates};
 use crate::order::put_falling;
 use judge::unlogged::judge_unlogged;
 use rules::answers::Answer;
@@ -12,10 +13,10 @@ use rules::answers::Text;
 use rules::counts::Counts;
 use rules::limits::Limits;
 
-// What is said of a netlist with M at most 127. A term of it has at most three words: the store has room for 512 of them, scratch
+// What is said of a netlist of AND gates with M at most 127. A term of it has at most three words: the store has room for 512 of them, scratch
 // for four times as many.
 pub fn judged(kind: u32, counts: Counts, table: &[u32]) -> Answer
-    requires { ⌜ (counts .a ≤ counts .m) × (counts .m ≤ most-desk-variables) ⌝ }
+    requires { ⌜ (counts .a ≤ counts .m) × (counts .m ≤ most-desk-variables) × (counts .records ≡ Gates) ⌝ }
     ensures { λ r. ⌜ says r ≡ desk-judging kind counts (now (table .entry)) ⌝ }
 {
     let mut order = [0u32; 127];

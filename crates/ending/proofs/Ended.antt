@@ -236,8 +236,8 @@ module _ {c : Counts} {table : List ℕ} {kind count : ℕ} {store : List ℕ} (
   ending-first =
       let f = facts (e .sound .fitting) in
       let room = stride-in 0 count (set-width c) (length store) some (e .room) in (
-        omega (arith, f .all),
-        f .variables,
+        omega (arith, f .counts .variables),
+        f .counts .most,
         omega (arith, zero-mul (set-width c + 1)),
         rw (← first-set (set-width c) count store some) (below-first (2 ^ (c .m + 1)) last (e .falls) (omega (arith, terms-held))),
       )
@@ -259,7 +259,7 @@ module _ {c : Counts} {table : List ℕ} {kind count : ℕ} {store : List ℕ} (
     unfolding term-width set-width
     ending-halves =
         let f = facts (e .sound .fitting) in
-        let most : 2 ^ (c .i + 1) ≤ 2 ^ 65 = pow-mono {i = c .i + 1} {j = 65} (omega (arith, f .most)) in
+        let most : 2 ^ (c .i + 1) ≤ 2 ^ 65 = pow-mono {i = c .i + 1} {j = 65} (omega (arith, f .counts .inputs .1)) in
         record {
           wide = omega arith;
           some = some;

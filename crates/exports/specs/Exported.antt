@@ -2,7 +2,7 @@
 use mathlib.Core.Path.{_≡_}
 use mathlib.Core.Bool.{cond}
 use mathlib.Core.List.{List, _++_}
-use Prim.Native.Nat.{ℕ, _+_, _≤_}
+use Prim.Native.Nat.{ℕ, zero, suc, _+_, _≤_}
 use lib.Dec.{ltb}
 use lib.ListN.{length, drop}
 use Rattle.rules.specs.Says.{Says, refuses, answers, says}
@@ -12,6 +12,17 @@ use Rattle.rules.specs.Judging.{Inputs, judging, store-after, scratch-after, lo
 use Rattle.rules.specs.declared.answers.Answer.{Answer}
 use Rattle.rules.specs.declared.answers.StepRecord.{StepRecord}
 use Rattle.rules.specs.declared.counts.Counts.{Counts}
+use Rattle.rules.specs.declared.records.RecordKind.{RecordKind}
+use Rattle.rules.specs.declared.records.RecordKind.the-variants.{Gates, Cells}
+
+-- the kind of record that a host names: 0 is AND gates, any other number lookup cells
+unfoldable pub records-named : ℕ → RecordKind
+records-named zero = Gates
+records-named (suc k) = Cells
+
+-- the counts of a host's numbers, and the kind of record that it names
+unfoldable pub named : ℕ → ℕ → ℕ → ℕ → ℕ → ℕ → Counts
+named m i l o a cells = record { m = m; i = i; l = l; o = o; a = a; records = records-named cells }
 
 -- the number of what is said: the answer's, or 100 plus the refusal's
 unfoldable pub number-of : Says → ℕ

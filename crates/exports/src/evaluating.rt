@@ -1,7 +1,6 @@
 // Evaluating one operand pair.
 use rules::answers::Word;
-use rules::counts::Counts;
-ghost use Rattle.exports.specs.Exported.{EvaluateGiven};
+ghost use Rattle.exports.specs.Exported.{named, EvaluateGiven};
 
 // 0 and the word that the outputs show for the operands x and y, or 100 plus the refusal; 112 where there is no room for a word.
 #[no_mangle]
@@ -12,16 +11,17 @@ pub extern "C" fn hraskell_evaluate(
     o: u32,
     a: u32,
     table: &[u32],
+    cells: u32,
     x: u64,
     y: u64,
     word: &mut [u64],
 ) -> u32
-    ensures { λ r. ⌜ EvaluateGiven (record { m = m; i = i; l = l; o = o; a = a }) (now (table .entry)) x y (now (word .entry)) r (now (word .exit)) ⌝ }
+    ensures { λ r. ⌜ EvaluateGiven (named m i l o a cells) (now (table .entry)) x y (now (word .entry)) r (now (word .exit)) ⌝ }
 {
     if word.len() < 1 {
         return 112;
     }
-    let counts = Counts { m, i, l, o, a };
+    let counts = crate::blocks::counts(m, i, l, o, a, cells);
     match netlist::evaluate(counts, table, x, y) {
         Word::Refused(number) => 100 + number,
         Word::Is(shown) => {

@@ -1,14 +1,13 @@
 // Judging a block.
 use rules::answers::Answer;
 use rules::answers::StepRecord;
-use rules::counts::Counts;
 ghost use mathlib.Core.Path.{_≡_};
 ghost use mathlib.Core.List.{_∷_, [], _++_};
 ghost use Prim.Native.Nat.{_≤_};
 ghost use lib.ListN.{length, drop};
 ghost use Rattle.rules.specs.Says.{says};
 ghost use Rattle.judge.specs.Deciding.{handed};
-ghost use Rattle.exports.specs.Exported.{number-of, given, Refusing, JudgeGiven};
+ghost use Rattle.exports.specs.Exported.{number-of, given, named, Refusing, JudgeGiven};
 
 // Writes two numbers in front.
 fn put_two(x: u64, y: u64, answer: &mut [u64])
@@ -75,6 +74,7 @@ pub extern "C" fn hraskell_judge(
     o: u32,
     a: u32,
     table: &[u32],
+    cells: u32,
     kind: u32,
     limit: u64,
     order: &[u32],
@@ -83,12 +83,12 @@ pub extern "C" fn hraskell_judge(
     log: &mut [StepRecord],
     answer: &mut [u64],
 ) -> u32
-    ensures { λ r. ⌜ JudgeGiven (handed (record { m = m; i = i; l = l; o = o; a = a }) (now (table .entry)) kind limit (now (order .entry)) (now (store .entry)) (now (scratch .entry)) (now (log .entry))) (now (answer .entry)) r (now (store .exit)) (now (scratch .exit)) (now (log .exit)) (now (answer .exit)) ⌝ }
+    ensures { λ r. ⌜ JudgeGiven (handed (named m i l o a cells) (now (table .entry)) kind limit (now (order .entry)) (now (store .entry)) (now (scratch .entry)) (now (log .entry))) (now (answer .entry)) r (now (store .exit)) (now (scratch .exit)) (now (log .exit)) (now (answer .exit)) ⌝ }
 {
     if answer.len() < 6 {
         return 112;
     }
-    let counts = Counts { m, i, l, o, a };
+    let counts = crate::blocks::counts(m, i, l, o, a, cells);
     let said = judge::judge(counts, table, kind, limit, order, store, scratch, log);
     put_answer(said, answer)
 }

@@ -1,4 +1,4 @@
 -- What a gate is to the streams of a step.
-pub mod Literals
-pub mod Signs
+pub mod Rows
+pub mod Apart
 pub mod Masks

@@ -1,5 +1,4 @@
-// A gate as what the streams of a step need to know of it: its two literals brought apart, then the signs and the masks of their
-// product.
-pub mod literals; // literals.rt: the two literals brought apart
+// A gate as what the streams of a step need to know of it: its polynomial brought apart, then the multipliers and the masks.
+pub mod apart; // apart.rt: the coefficients of a record, over variables of which none stands twice
+pub mod multipliers; // multipliers.rt: what a stream takes of a coefficient
 pub mod masks; // masks.rt: what a stream changes in a set
-pub mod signs; // signs.rt: what a stream takes of a coefficient

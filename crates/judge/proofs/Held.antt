@@ -11,16 +11,18 @@ use lib.Pow.{pow-mono, pow-pos}
 use borrow.Author.Tests.{leb-true}
 use Rattle.rules.specs.Judging.{set-width, term-width, polynomial-words, padded}
 use Rattle.rules.specs.Limits.{most-terms}
-use Rattle.rules.specs.Netlist.{rhs0, rhs1}
+use Rattle.rules.specs.Netlist.{record-at}
 use Rattle.rules.specs.Polynomial.{Polynomial, Below, Coefficients, gather}
 use Rattle.rules.specs.Steps.{step, all-replaced}
 use Rattle.rules.specs.declared.counts.Counts.{Counts}
+use Rattle.rules.specs.declared.records.Record.{Record}
 use Rattle.rules.proofs.Gathered.{gather-below, gather-coefficients, under-of}
 use Rattle.rules.proofs.Terms.{weaken}
 use Rattle.rules.proofs.AllSets.{AllSets, Joins, sets-under, all-terms-replaced}
 use Rattle.rules.proofs.Bits.{with-variable-under}
+use Rattle.rules.proofs.Sound.{every-variable}
 use Rattle.netlist.specs.Taken.{Sound}
-use Rattle.netlist.proofs.Facts.{facts, gate-within}
+use Rattle.netlist.proofs.Facts.{facts, record-within}
 use Rattle.words.specs.Stored.{decoded}
 use Rattle.words.proofs.Encoded.{decoded-words, length-polynomial-words, length-padded}
 use Rattle.poly.specs.Stepping.{Ready, Stepped}
@@ -63,32 +65,32 @@ module _ {c : Counts} {table : List ℕ} {limit count : ℕ} {p : Polynomial} {s
     pub step-normal : Below (2 ^ (c .m + 1)) (step (2 ^ c .o) c table v p) × Coefficients (2 ^ c .o) (step (2 ^ c .o) c table v p)
     unfolding step
     step-normal =
-        let low = gate-within (r .sound) v above below in
+        let low = record-within (r .sound) v above below .low in
         let b = 2 ^ (c .m + 1) in
         let under : ℕ → Type 0 = λ s. s < 2 ^ (c .m + 1) in
-        let raw : Polynomial = all-replaced (2 ^ c .o) v (rhs0 c table v) (rhs1 c table v) p in
+        let raw : Polynomial = all-replaced (2 ^ c .o) v (record-at c table v) p in
         let joins : (u : ℕ) → u < v → Joins under u = λ u l above s h. with-variable-under (c .m + 1) s u (omega arith) h in (
           gather-below (2 ^ c .o) b raw
               (sets-under b raw
-              (all-terms-replaced under under (2 ^ c .o) v (λ s e h. h) (λ s e h. omega arith) (rhs0 c table v) (rhs1 c table v)
-              (joins _ (low .0)) (joins _ (low .1)) p (below-sets b b p (omega arith) (r .falls)))),
+              (all-terms-replaced under under (2 ^ c .o) v (λ s e h. h) (λ s e h. omega arith) (record-at c table v)
+              (every-variable (λ u. u < v) (Joins under) joins (record-at c table v) low) p (below-sets b b p (omega arith) (r .falls)))),
           gather-coefficients (2 ^ c .o) raw (pow-pos (c .o)),
         )
 
 -- what a step asks of the words is there
 pub ready : {c : Counts} {table : List ℕ} {limit count : ℕ} {store scratch : List ℕ}
-    → Running c table limit count (decoded (set-width c) count store) store scratch → {v x y : ℕ} → c .i < v → v ≤ c .m
-    → x ≡ rhs0 c table v → y ≡ rhs1 c table v → Ready (c .m / 64 + 1) (c .o) v x y limit count store scratch
+    → Running c table limit count (decoded (set-width c) count store) store scratch → {v : ℕ} {part : Record} → c .i < v → v ≤ c .m
+    → part ≡ record-at c table v → Ready (c .m / 64 + 1) (c .o) v part limit count store scratch
 unfolding term-width set-width
-ready {c} {table} {limit} {count} {store} r {v} above below e f′ =
+ready {c} {table} {limit} {count} {store} r {v} above below e =
     let f = facts (r .sound .fitting) in
-    let low = gate-within (r .sound) v above below in
+    let within = record-within (r .sound) v above below in
     record {
-      narrow = omega (arith, f .variables);
-      l-high = f .word;
+      narrow = omega (arith, f .counts .most);
+      l-high = f .counts .outputs .1;
       v-in = omega arith;
-      x-low = rw e (low .0);
-      y-low = rw f′ (low .1);
+      low = rw e (within .low);
+      byte = rw e (within .byte);
       held-most = r .few;
       store-room = r .store-room;
       scratch-room = r .scratch-room;
@@ -98,13 +100,13 @@ ready {c} {table} {limit} {count} {store} r {v} above below e f′ =
       clean = r .clean;
     }
 
--- a step of the gate's literals is the step of the rules
-pub stepped-to : (c : Counts) (table : List ℕ) (v : ℕ) (p : Polynomial) {limit x y r : ℕ} {store scratch store′ scratch′ : List ℕ}
-    → x ≡ rhs0 c table v → y ≡ rhs1 c table v
-    → Stepped (c .m / 64 + 1) limit (gather (2 ^ c .o) (all-replaced (2 ^ c .o) v x y p)) store scratch r store′ scratch′
+-- a step of the gate's record is the step of the rules
+pub stepped-to : (c : Counts) (table : List ℕ) (v : ℕ) (p : Polynomial) {limit r : ℕ} {part : Record} {store scratch store′ scratch′ : List ℕ}
+    → part ≡ record-at c table v
+    → Stepped (c .m / 64 + 1) limit (gather (2 ^ c .o) (all-replaced (2 ^ c .o) v part p)) store scratch r store′ scratch′
     → Stepped (set-width c) limit (step (2 ^ c .o) c table v p) store scratch r store′ scratch′
 unfolding step set-width
-stepped-to c table v p e f s = rw (← e, ← f) s
+stepped-to c table v p e s = rw (← e) s
 
 module _ {c : Counts} {limit count v r : ℕ} {q : Polynomial} {store scratch store′ scratch′ : List ℕ}
     (s : Stepped (set-width c) limit q store scratch r store′ scratch′) (t : Turn) (gate : t .gate ≡ v) where

@@ -3,12 +3,13 @@ use mathlib.Core.Path.{_≡_, refl, sym, _∙_, subst}
 use mathlib.Core.Bool.{Bool, true, false, not, cond, _||_}
 use mathlib.Core.List.{List, [], _∷_}
 use Prim.Native.Nat.{ℕ, zero, suc, _+_, _*_, _≤_}
+use native.Mathlib.Nat.{mul-le-mul-right}
 use native.Mathlib.Omega.{arith}
 use lib.Dec.{T, leb, ltb, eqb}
 use lib.ListN.{length}
 use borrow.Author.Tests.{ltb-false, leb-true, leb-false, eqb-true, not-false}
 use Rattle.rules.specs.Each.{every}
-use Rattle.rules.specs.Judging.{Inputs, Judged, is-gate, set-width, term-width, kind-wrong, order-wrong, lent-short, judge-checks, ended}
+use Rattle.rules.specs.Judging.{Inputs, Judged, is-gate, set-width, term-width, kind-wrong, order-wrong, most-made, scratch-needed, lent-short, judge-checks, ended}
 use Rattle.rules.specs.Judging.{checks, refusal, polynomials, judging, store-after, scratch-after, log-after, kept-or}
 use Rattle.rules.specs.Limits.{most-steps, terms-wrong, steps-wrong}
 use Rattle.rules.specs.Netlist.{counts-wrong, table-short, table-unsound}
@@ -19,16 +20,27 @@ use Rattle.rules.specs.Values.{width}
 use Rattle.rules.specs.declared.answers.Answer.{Answer}
 use Rattle.rules.specs.declared.answers.StepRecord.{StepRecord}
 use Rattle.rules.specs.declared.counts.Counts.{Counts}
+use Rattle.rules.specs.declared.records.RecordKind.{RecordKind}
+use Rattle.rules.specs.declared.records.RecordKind.the-variants.{Gates, Cells}
 use Rattle.words.specs.Stored.{decoded}
 use Rattle.netlist.proofs.Facts.{passed as fitting}
 use Rattle.product.proofs.Readings.{kind-known}
-use Rattle.checks.proofs.Checked.{neither, limit-small, row-later}
+use Rattle.checks.proofs.Checked.{limit-small, row-later}
+use Rattle.rules.proofs.Indices.{neither}
 use Rattle.judge.specs.Running.{Running, Finished}
 use Rattle.judge.specs.Deciding.{handed, Passed, Begun, SetOut, stop, Closing, last, Decided}
 use Rattle.judge.specs.declared.deciding.Outset.{Outset}
 use Rattle.judge.specs.declared.run.Ran.{Ran}
 use Rattle.judge.proofs.Going.{path}
 use Rattle.judge.proofs.Opened.{Opened, opened, decided-none, closing, decided-last}
+
+-- scratch for the most terms that a step makes is enough for a step, which gathers them as they are made
+four-enough : (k : RecordKind) (limit width lent : ℕ) → most-made k * limit * width ≤ lent → 4 * limit * width ≤ lent
+unfolding most-made
+four-enough Gates limit width lent h = h
+four-enough Cells limit width lent h =
+    let fewer : 4 * limit ≤ 8 * limit = omega arith in
+    omega (arith, mul-le-mul-right width fewer)
 
 -- an order that is not too long
 steps-few : (n : ℕ) → steps-wrong n ≡ false → n ≤ most-steps
@@ -67,14 +79,14 @@ module _ (c : Counts) (table : List ℕ) (kind limit : ℕ) (order store scratch
   -- what it says that no check holds
   pub all-passed : (log : ℕ) → first (judge-checks c table kind limit order (length store) (length scratch) log) ≡ 0
       → Passed c table kind limit order store scratch log
-  unfolding judge-checks first kind-wrong order-wrong lent-short
+  unfolding judge-checks first kind-wrong order-wrong lent-short scratch-needed
   all-passed log h =
       let four = row-later (counts-wrong c) (table-short c (length table)) (table-unsound c table) (kind-wrong c kind) _ h in
       let three = later-passed (terms-wrong limit) (order-wrong c order) (lent-short c limit (length order) (length store) (length scratch) log) (four .4) in
       let kinds = neither (kind-unknown kind) (not (eqb (c .o) (outputs-of (kind-of kind) (width c)))) (four .3) in
       let orders = neither (steps-wrong (length order)) (not (every (is-gate c) order)) (three .1) in
       let short-store = ltb (length store) (limit * term-width c) in
-      let short-scratch = ltb (length scratch) (4 * limit * term-width c) in
+      let short-scratch = ltb (length scratch) (scratch-needed c limit) in
       let lents = neither (short-store || short-scratch) (ltb log (length order)) (three .2) in
       let words = neither short-store short-scratch (lents .0) in
       record {
@@ -84,7 +96,7 @@ module _ (c : Counts) (table : List ℕ) (kind limit : ℕ) (order store scratch
           outputs = eqb-true (c .o) (outputs-of (kind-of kind) (width c)) (not-false _ (kinds .1));
           taken = limit-small limit (three .0);
           store-room = ltb-false (length store) (limit * term-width c) (words .0);
-          scratch-room = ltb-false (length scratch) (4 * limit * term-width c) (words .1);
+          scratch-room = four-enough (c .records) limit (term-width c) (length scratch) (ltb-false (length scratch) (scratch-needed c limit) (words .1));
         };
         short = steps-few (length order) (orders .0);
         gates-only = not-false (every (is-gate c) order) (orders .1);

@@ -1,6 +1,5 @@
 // One step of a run.
-use netlist::table::rhs0;
-use netlist::table::rhs1;
+use netlist::table::record_at;
 use poly::step::step;
 use rules::counts::Counts;
 ghost use Prim.Native.Nat.{_^_, _<_, _≤_};
@@ -32,9 +31,8 @@ pub fn take_turn(
         (now (store .entry)) (now (scratch .entry)) r (now (store .exit)) (now (scratch .exit)) ⌝ }
 {
     let w = (c.m / 64 + 1) as usize;
-    let x = rhs0(c, table, v);
-    let y = rhs1(c, table, v);
-    let terms = step(w, c.o, v, x, y, limit, held, store, scratch);
+    let r = record_at(c, table, v);
+    let terms = step(w, c.o, v, r, limit, held, store, scratch);
     if terms > limit {
         return Turn {
             fits: false,

@@ -2,16 +2,17 @@
 ghost use mathlib.Core.Path.{_≡_};
 ghost use lib.ListN.{drop};
 ghost use Rattle.rules.specs.Text.{header-word};
-ghost use Rattle.rules.specs.Reading.{word, header-line, input-line, output-line, gate-line, lines};
+ghost use Rattle.rules.specs.Reading.{word, input-line, output-line, gate-line, lines};
 ghost use Rattle.lines.specs.Found.{place-scan, value-scan};
-ghost use Rattle.lines.specs.Sections.{heading-scan, gate-scan, bare, section-line};
+ghost use Rattle.lines.specs.Sections.{Headed, gate-scan, bare, section-line};
 use crate::fields::Place;
 use crate::fields::Value;
 use crate::fields::behind;
 use crate::fields::field;
 use rules::counts::Counts;
+use rules::records::RecordKind;
 
-// The header's five numbers, and the place behind it.
+// The header's five numbers, with the kind of record, and the place behind it.
 pub enum Heading {
     Read(Counts, usize),
     Missing,
@@ -46,9 +47,9 @@ pub fn word(text: &[u8]) -> Place
     behind(text, third, b' ')
 }
 
-// The header line.
+// The header line. A text has AND gates.
 pub fn header(text: &[u8]) -> Heading
-    ensures { λ r. ⌜ heading-scan (now (text .entry)) r ≡ header-line (now (text .entry)) ⌝ }
+    ensures { λ r. ⌜ Headed (now (text .entry)) r ⌝ }
 {
     let Place::At(start) = word(text) else {
         return Heading::Missing;
@@ -68,7 +69,15 @@ pub fn header(text: &[u8]) -> Heading
     let Value::Read(a, end) = field(text, fourth, b'\n') else {
         return Heading::Missing;
     };
-    let counts = Counts { m, i, l, o, a };
+    let records = RecordKind::Gates;
+    let counts = Counts {
+        m,
+        i,
+        l,
+        o,
+        a,
+        records,
+    };
     Heading::Read(counts, end)
 }
 

@@ -9,9 +9,11 @@ use native.Mathlib.Numerals.{add-one}
 use native.Mathlib.Omega.{arith}
 use lib.Bits.{bitXor}
 use lib.Dec.{ltb, eqb}
+use lib.IntN.{ℤ, pos}
 use lib.ListN.{length, getD, drop, set, drop-of-length-le}
 use lib.Seq.{drop-cons, getD-set-same, getD-set-other}
 use borrow.Author.Tests.{eq-eqb, ne-eqb, eqb-true, eqb-false, ltb-true, ltb-false, lt-ltb, le-ltb}
+use Rattle.rules.specs.Values.{bit}
 use Rattle.rules.specs.Polynomial.{Polynomial, Below, keep}
 use Rattle.rules.proofs.Terms.{hit-add, hit-mod, coefficient-cons}
 use Rattle.rules.proofs.Gathered.{keep-some}
@@ -21,10 +23,12 @@ use Rattle.words.specs.declared.sets.Order.{Order}
 use Rattle.words.specs.declared.sets.Order.the-variants.{Less, Same, More}
 use Rattle.words.proofs.Numbers.{Said, length-words-at, words-from, num-masked, num-short-masked, read-order}
 use Rattle.words.proofs.Stored.{decoded-at, length-decoded, stride-in}
-use Rattle.gates.specs.Signs.{scale}
-use Rattle.merge.specs.Streams.{sign-of, weight, stream, rest, rank, Masks, Short, Next, Loaded, Took}
+use Rattle.merge.specs.Streams.{streams-of, held-in, multiplier-of, weight, stream, rest, rank, Masks, Short, Next, Loaded, Took}
 use Rattle.gates.specs.Masks.{mask-at}
+use Rattle.gates.proofs.Flipped.{bit-lt}
 use Rattle.gates.proofs.Tables.{row-in}
+use Rattle.gates.proofs.Whole.{scaled-none}
+use Rattle.merge.proofs.Scaled.{scaled-some}
 use Rattle.merge.specs.declared.streams.Gate.{Gate}
 
 -- what a test of two numbers found: they differ
@@ -54,38 +58,38 @@ pub keep-none : (c s : ℕ) (p : Polynomial) → c ≡ 0 → keep c s p ≡ p
 unfolding keep
 keep-none c s p h = rw h
 
-module _ (g : Gate) (signs : List ℕ) (mask : ℕ → ℕ) (j : ℕ) where
+module _ (g : Gate) (multipliers : List ℤ) (mask : ℕ → ℕ) (j : ℕ) where
   -- a stream at a term that is in it
-  pub stream-some : (p : Polynomial) (i : ℕ) → i < length p → 0 < weight g signs j (getD p i (0, 0))
-      → stream g signs mask j (drop i p) ≡ (weight g signs j (getD p i (0, 0)), bitXor (getD p i (0, 0) .1) (mask j)) ∷ stream g signs mask j (drop (suc i) p)
+  pub stream-some : (p : Polynomial) (i : ℕ) → i < length p → 0 < weight g multipliers j (getD p i (0, 0))
+      → stream g multipliers mask j (drop i p) ≡ (weight g multipliers j (getD p i (0, 0)), bitXor (getD p i (0, 0) .1) (mask j)) ∷ stream g multipliers mask j (drop (suc i) p)
   unfolding stream
   stream-some p i h l = rw (drop-cons p i (0, 0) h) (keep-some _ _ _ l)
 
   -- a stream at a term that is not in it
-  stream-skip : (p : Polynomial) (i : ℕ) → i < length p → weight g signs j (getD p i (0, 0)) ≡ 0 → stream g signs mask j (drop i p) ≡ stream g signs mask j (drop (suc i) p)
+  stream-skip : (p : Polynomial) (i : ℕ) → i < length p → weight g multipliers j (getD p i (0, 0)) ≡ 0 → stream g multipliers mask j (drop i p) ≡ stream g multipliers mask j (drop (suc i) p)
   unfolding stream
   stream-skip p i h l = rw (drop-cons p i (0, 0) h) (keep-none _ _ _ l)
 
   -- a stream at its end
-  pub stream-end : (p : Polynomial) (i : ℕ) → length p ≤ i → stream g signs mask j (drop i p) ≡ []
+  pub stream-end : (p : Polynomial) (i : ℕ) → length p ≤ i → stream g multipliers mask j (drop i p) ≡ []
   unfolding stream
   stream-end p i h = rw (drop-of-length-le p {i = i} h)
 
   -- a stream passes terms that are not in it
-  pass : (p : Polynomial) (d from r : ℕ) → from + d ≡ r → r ≤ length p → ((i : ℕ) → from ≤ i → i < r → weight g signs j (getD p i (0, 0)) ≡ 0)
-      → stream g signs mask j (drop from p) ≡ stream g signs mask j (drop r p)
-  pass p zero from r e h f = ap (λ (i : ℕ). stream g signs mask j (drop i p)) (sym (add-zero from) ∙ e)
+  pass : (p : Polynomial) (d from r : ℕ) → from + d ≡ r → r ≤ length p → ((i : ℕ) → from ≤ i → i < r → weight g multipliers j (getD p i (0, 0)) ≡ 0)
+      → stream g multipliers mask j (drop from p) ≡ stream g multipliers mask j (drop r p)
+  pass p zero from r e h f = ap (λ (i : ℕ). stream g multipliers mask j (drop i p)) (sym (add-zero from) ∙ e)
   pass p (suc d) from r e h f =
       stream-skip p from (omega arith) (f from (omega arith) (omega arith)) ∙ pass p d (suc from) r (omega arith) h (λ i a b. f i (omega arith) b)
 
   -- and so from one of its terms to the next
-  pub stream-pass : (p : Polynomial) (from r : ℕ) → Next g signs j p from r → stream g signs mask j (drop from p) ≡ stream g signs mask j (drop r p)
+  pub stream-pass : (p : Polynomial) (from r : ℕ) → Next g multipliers j p from r → stream g multipliers mask j (drop from p) ≡ stream g multipliers mask j (drop r p)
   stream-pass p from r n = pass p (r - from) from r (omega (arith, n .low)) (n .high) (n .none)
 
-  module _ (p : Polynomial) (s : ℕ) (at : List ℕ) (c : ℕ) (hc : c < 2 ^ g .l) (lj : j < length at) (ld : Loaded g signs p at j)
-      (lw : Below (suc s) (rest g signs mask p at j)) where
+  module _ (p : Polynomial) (s : ℕ) (at : List ℕ) (c : ℕ) (hc : c < 2 ^ g .l) (lj : j < length at) (ld : Loaded g multipliers p at j)
+      (lw : Below (suc s) (rest g multipliers mask p at j)) where
     -- the stream is at its end: nothing is taken
-    pub took-end : length p ≤ getD at j 0 → Took g signs mask p s j at at c c
+    pub took-end : length p ≤ getD at j 0 → Took g multipliers mask p s j at at c c
     unfolding rest rank
     took-end h = record {
       others = λ i n. refl;
@@ -107,10 +111,10 @@ module _ (g : Gate) (signs : List ℕ) (mask : ℕ → ℕ) (j : ℕ) where
     low-head h = (rw (stream-some p (getD at j 0) h (ld .1 h)) at lw) .0
 
     -- the head has another set: nothing is taken
-    pub took-other : getD at j 0 < length p → (bitXor (getD p (getD at j 0) (0, 0) .1) (mask j) ≡ s → ⊥) → Took g signs mask p s j at at c c
+    pub took-other : getD at j 0 < length p → (bitXor (getD p (getD at j 0) (0, 0) .1) (mask j) ≡ s → ⊥) → Took g multipliers mask p s j at at c c
     unfolding rest rank key
     took-other h n =
-        let e : stream g signs mask j (drop (getD at j 0) p) ≡ (weight g signs j (getD p (getD at j 0) (0, 0)), bitXor (getD p (getD at j 0) (0, 0) .1) (mask j)) ∷ stream g signs mask j (drop (suc (getD at j 0)) p) = stream-some p (getD at j 0) h (ld .1 h) in
+        let e : stream g multipliers mask j (drop (getD at j 0) p) ≡ (weight g multipliers j (getD p (getD at j 0) (0, 0)), bitXor (getD p (getD at j 0) (0, 0) .1) (mask j)) ∷ stream g multipliers mask j (drop (suc (getD at j 0)) p) = stream-some p (getD at j 0) h (ld .1 h) in
         let lo : bitXor (getD p (getD at j 0) (0, 0) .1) (mask j) < suc s = low-head h in
         record {
           others = λ i n. refl;
@@ -124,12 +128,12 @@ module _ (g : Gate) (signs : List ℕ) (mask : ℕ → ℕ) (j : ℕ) where
 
     -- the head has that set: it is taken
     pub took-same : getD at j 0 < length p → bitXor (getD p (getD at j 0) (0, 0) .1) (mask j) ≡ s
-        → (r c′ : ℕ) → Next g signs j p (getD at j 0 + 1) r → c′ ≡ (c + weight g signs j (getD p (getD at j 0) (0, 0))) % 2 ^ g .l → c′ < 2 ^ g .l
-        → Took g signs mask p s j at (set at j r) c c′
+        → (r c′ : ℕ) → Next g multipliers j p (getD at j 0 + 1) r → c′ ≡ (c + weight g multipliers j (getD p (getD at j 0) (0, 0))) % 2 ^ g .l → c′ < 2 ^ g .l
+        → Took g multipliers mask p s j at (set at j r) c c′
     unfolding rest
     took-same h q r c′ n e hc′ =
-        let x : stream g signs mask j (drop (getD at j 0) p) ≡ (weight g signs j (getD p (getD at j 0) (0, 0)), bitXor (getD p (getD at j 0) (0, 0) .1) (mask j)) ∷ stream g signs mask j (drop (suc (getD at j 0)) p) = stream-some p (getD at j 0) h (ld .1 h) in
-        let y : stream g signs mask j (drop (suc (getD at j 0)) p) ≡ stream g signs mask j (drop r p) = rw (add-one (getD at j 0)) at (stream-pass p (getD at j 0 + 1) r n) in
+        let x : stream g multipliers mask j (drop (getD at j 0) p) ≡ (weight g multipliers j (getD p (getD at j 0) (0, 0)), bitXor (getD p (getD at j 0) (0, 0) .1) (mask j)) ∷ stream g multipliers mask j (drop (suc (getD at j 0)) p) = stream-some p (getD at j 0) h (ld .1 h) in
+        let y : stream g multipliers mask j (drop (suc (getD at j 0)) p) ≡ stream g multipliers mask j (drop r p) = rw (add-one (getD at j 0)) at (stream-pass p (getD at j 0 + 1) r n) in
         let z : getD (set at j r) j 0 ≡ r = getD-set-same at j r 0 lj in
         record {
           others = λ i d. getD-set-other at j i r 0 d;
@@ -205,39 +209,33 @@ best-more f j b r k hb hj e h = go (ltb (f b) (f j)) refl e
     go true d z = rw z (hj, step j (omega (arith, ltb-true (f b) (f j) d)) (omega arith))
     go false d z = rw z (hb, step b (omega arith) (ltb-false (f b) (f j) d))
 
--- a coefficient under a sign, by the sign
-pub scale-none : (m k c : ℕ) → k ≡ 0 → scale m k c ≡ 0
-unfolding scale
-scale-none m k c e = rw e
+-- there are streams, at most eight
+pub streams-few : (g : Gate) → (0 < streams-of g) × (streams-of g ≤ 8)
+unfolding streams-of
+streams-few g = go (eqb (g .z) 0)
+  where
+    go : (b : Bool) → (0 < cond b 4 8) × (cond b 4 8 ≤ 8)
+    go true = (omega arith, omega arith)
+    go false = (omega arith, omega arith)
 
--- the sign 1
-pub scale-one : (m k c : ℕ) → k ≡ 1 → scale m k c ≡ c
-unfolding scale
-scale-one m k c e = rw e
-
--- the sign 2
-pub scale-negated : (m k c : ℕ) → (k ≡ 0 → ⊥) → (k ≡ 1 → ⊥) → scale m k c ≡ m - c
-unfolding scale
-scale-negated m zero c e f = absurd (e refl)
-scale-negated m (suc zero) c e f = absurd (f refl)
-scale-negated m (suc (suc k)) c e f = refl
-
--- a sign that is not 0 leaves something of a coefficient
-scale-some : (m k c : ℕ) → (k ≡ 0 → ⊥) → 1 ≤ c → c < m → 0 < scale m k c
-unfolding scale
-scale-some m zero c e l h = absurd (e refl)
-scale-some m (suc zero) c e l h = l
-scale-some m (suc (suc k)) c e l h = omega arith
+-- a set has one of eight subsets of x, y and z
+pub held-lt : (g : Gate) (s : ℕ) → held-in g s < 8
+unfolding held-in
+held-lt g s = go (eqb (g .z) 0)
+  where
+    go : (b : Bool) → bit s (g .x) + 2 * bit s (g .y) + 4 * cond b 0 (bit s (g .z)) < 8
+    go true = omega (arith, bit-lt s (g .x), bit-lt s (g .y))
+    go false = omega (arith, bit-lt s (g .x), bit-lt s (g .y), bit-lt s (g .z))
 
 -- what holds of each place from f to k, and of k
 more : (P : ℕ → Type 0) (f k : ℕ) → ((i : ℕ) → f ≤ i → i < k → P i) → P k → (i : ℕ) → f ≤ i → i < k + 1 → P i
 more P f k h p i a b = ⊎-elim (λ (e : i ≡ k). rw e p) (λ (l : i < k). h i a l) (eq-or-lt-of-le {n = i} {m = k} (omega arith))
 
--- the search for the next term of stream j; x is the sign of the term at k
-module _ (g : Gate) (signs : List ℕ) (j w n : ℕ) (s : List ℕ) where
+-- the search for the next term of stream j; x is the multiplier of the term at k
+module _ (g : Gate) (multipliers : List ℤ) (j w n : ℕ) (s : List ℕ) where
   -- no term from one place to another is in the stream
   pub Passed : ℕ → ℕ → Type 0
-  Passed from k = (i : ℕ) → from ≤ i → i < k → weight g signs j (getD (decoded w n s) i (0, 0)) ≡ 0
+  Passed from k = (i : ℕ) → from ≤ i → i < k → weight g multipliers j (getD (decoded w n s) i (0, 0)) ≡ 0
 
   -- nothing is passed yet
   pub passed-none : (from : ℕ) → Passed from from
@@ -245,24 +243,24 @@ module _ (g : Gate) (signs : List ℕ) (j w n : ℕ) (s : List ℕ) where
   passed-none from i a b = absurd (omega arith)
 
   -- one more term is not in the stream
-  pub passed-more : (from k x : ℕ) → k < n → Passed from k → x ≡ sign-of g signs j (num (words-at s (k * (w + 1) + 1) w)) → x ≡ 0 → Passed from (k + 1)
+  pub passed-more : (from k : ℕ) (x : ℤ) → k < n → Passed from k → x ≡ multiplier-of g multipliers j (num (words-at s (k * (w + 1) + 1) w)) → x ≡ pos 0 → Passed from (k + 1)
   unfolding Passed weight
   passed-more from k x l h e z =
-      more (λ i. weight g signs j (getD (decoded w n s) i (0, 0)) ≡ 0) from k h (rw (decoded-at w n k s l) (scale-none _ _ _ (sym e ∙ z)))
+      more (λ i. weight g multipliers j (getD (decoded w n s) i (0, 0)) ≡ 0) from k h (rw (decoded-at w n k s l) (scaled-none _ _ _ (sym e ∙ z)))
 
   -- the term at k is the next
-  pub next-some : (from k x : ℕ) → from ≤ k → k < n → Passed from k → x ≡ sign-of g signs j (num (words-at s (k * (w + 1) + 1) w)) → (x ≡ 0 → ⊥)
-      → 1 ≤ getD s (k * (w + 1)) 0 → getD s (k * (w + 1)) 0 < 2 ^ g .l → Next g signs j (decoded w n s) from k
+  pub next-some : (from k : ℕ) (x : ℤ) → from ≤ k → k < n → Passed from k → x ≡ multiplier-of g multipliers j (num (words-at s (k * (w + 1) + 1) w)) → (x ≡ pos 0 → ⊥)
+      → 1 ≤ getD s (k * (w + 1)) 0 → getD s (k * (w + 1)) 0 < 2 ^ g .l → Next g multipliers j (decoded w n s) from k
   unfolding Passed weight
   next-some from k x a l h e z lo hi = record {
     low = a;
     high = rw (length-decoded w n s) (omega arith);
     none = h;
-    some = λ q. rw (decoded-at w n k s l) (scale-some _ _ _ (λ y. z (e ∙ y)) lo hi);
+    some = λ q. rw (decoded-at w n k s l) (scaled-some _ _ _ (λ y. z (e ∙ y)) lo hi);
   }
 
   -- there is no next
-  pub next-none : (from k : ℕ) → from ≤ k → k ≡ n → Passed from k → Next g signs j (decoded w n s) from k
+  pub next-none : (from k : ℕ) → from ≤ k → k ≡ n → Passed from k → Next g multipliers j (decoded w n s) from k
   unfolding Passed
   next-none from k a e h = record {
     low = a;
@@ -272,9 +270,9 @@ module _ (g : Gate) (signs : List ℕ) (j w n : ℕ) (s : List ℕ) where
   }
 
 -- one more stream begun
-pub begun-more : (g : Gate) (signs : List ℕ) (p : Polynomial) (at : List ℕ) (j r : ℕ) → j < length at → ((i : ℕ) → i < j → Next g signs i p 0 (getD at i 0)) → Next g signs j p 0 r
-    → (i : ℕ) → i < j + 1 → Next g signs i p 0 (getD (set at j r) i 0)
-begun-more g signs p at j r l h n i d = ⊎-elim
+pub begun-more : (g : Gate) (multipliers : List ℤ) (p : Polynomial) (at : List ℕ) (j r : ℕ) → j < length at → ((i : ℕ) → i < j → Next g multipliers i p 0 (getD at i 0)) → Next g multipliers j p 0 r
+    → (i : ℕ) → i < j + 1 → Next g multipliers i p 0 (getD (set at j r) i 0)
+begun-more g multipliers p at j r l h n i d = ⊎-elim
     (λ (e : i ≡ j). rw (e, getD-set-same at j r 0 l) n)
     (λ (q : i < j). rw (getD-set-other at j i r 0 (λ e. omega arith)) (h i q))
     (eq-or-lt-of-le {n = i} {m = j} (omega arith))

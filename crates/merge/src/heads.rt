@@ -4,10 +4,10 @@ ghost use mathlib.Core.Bool.{cond};
 ghost use Prim.Native.Nat.{ℕ, suc, _+_, _*_, _%_, _^_, _<_, _≤_};
 ghost use lib.Dec.{ltb, eqb};
 ghost use lib.ListN.{length};
+ghost use Rattle.rules.specs.Cells.{scaled};
 ghost use Rattle.rules.specs.Polynomial.{Below};
 ghost use Rattle.words.specs.Numbers.{num, words-at, masked};
 ghost use Rattle.words.specs.Stored.{decoded};
-ghost use Rattle.gates.specs.Signs.{scale};
 ghost use Rattle.merge.specs.Streams.{Held, Masks, Short, Loaded, Took, Swept, rank, rest};
 ghost use Rattle.gates.specs.Masks.{mask-at};
 use crate::streams::Gate;
@@ -65,18 +65,37 @@ pub fn best(store: &[u64], n: usize, w: usize, k: usize, masks: &[u64], at: &[us
     b
 }
 
-// c and the coefficient x under the sign k, modulo 2^l.
-fn added(c: u64, k: u8, x: u64, l: u32) -> u64
+// c and k times the coefficient x, modulo 2^l, by one x after the other.
+fn repeated(c: u64, k: i16, x: u64, l: u32) -> u64
     requires { ⌜ (l ≤ 64) × (c < 2 ^ l) × (x ≤ 2 ^ l) ⌝ }
-    ensures { λ r. ⌜ r ≡ (c + scale (2 ^ l) k x) % 2 ^ l ⌝ }
+    ensures { λ r. ⌜ r ≡ (c + scaled (2 ^ l) k x) % 2 ^ l ⌝ }
 {
-    if k == 0 {
-        return c;
+    let mut r = c;
+    let mut left = k;
+    while left != 0 {
+        if left < 0 {
+            r = words::coefficients::difference(r, x, l);
+            left += 1;
+        } else {
+            r = words::coefficients::sum(r, x, l);
+            left -= 1;
+        }
     }
+    r
+}
+
+// c and k times the coefficient x, modulo 2^l. Most multipliers are 1 and -1: those take no loop.
+fn added(c: u64, k: i16, x: u64, l: u32) -> u64
+    requires { ⌜ (l ≤ 64) × (c < 2 ^ l) × (x ≤ 2 ^ l) ⌝ }
+    ensures { λ r. ⌜ r ≡ (c + scaled (2 ^ l) k x) % 2 ^ l ⌝ }
+{
     if k == 1 {
         return words::coefficients::sum(c, x, l);
     }
-    words::coefficients::difference(c, x, l)
+    if k == -1 {
+        return words::coefficients::difference(c, x, l);
+    }
+    repeated(c, k, x, l)
 }
 
 // Whether the set at i under the mask at a is the one at h under the mask at b. Every sweep compares the best head with itself: the
@@ -103,7 +122,7 @@ fn take_head(
     n: usize,
     w: usize,
     g: Gate,
-    signs: &[u8],
+    multipliers: &[i16],
     masks: &[u64],
     at: &mut [usize],
     j: usize,
@@ -111,10 +130,10 @@ fn take_head(
     a: usize,
     c: u64,
 ) -> u64
-    requires { ⌜ Held (now store) n w g (now signs) × Masks (now store) (now masks) n w (length (now at)) (g .k) × (j < length (now at)) × (j < 4) × Short (now store) (now masks) h a w (g .k) × (c < 2 ^ g .l)
-        × Loaded g (now signs) (decoded w n (now store)) (now at) j
-        × Below (suc (num (masked (words-at (now store) h w) (words-at (now masks) a w)))) (rest g (now signs) (mask-at w (now masks)) (decoded w n (now store)) (now at) j) ⌝ }
-    ensures { λ r. ⌜ Took g (now (signs .entry)) (mask-at w (now (masks .entry))) (decoded w n (now (store .entry))) (num (masked (words-at (now (store .entry)) h w) (words-at (now (masks .entry)) a w))) j (now (at .entry)) (now (at .exit)) c r ⌝ }
+    requires { ⌜ Held (now store) n w g (now multipliers) × Masks (now store) (now masks) n w (length (now at)) (g .k) × (j < length (now at)) × (j < 8) × Short (now store) (now masks) h a w (g .k) × (c < 2 ^ g .l)
+        × Loaded g (now multipliers) (decoded w n (now store)) (now at) j
+        × Below (suc (num (masked (words-at (now store) h w) (words-at (now masks) a w)))) (rest g (now multipliers) (mask-at w (now masks)) (decoded w n (now store)) (now at) j) ⌝ }
+    ensures { λ r. ⌜ Took g (now (multipliers .entry)) (mask-at w (now (masks .entry))) (decoded w n (now (store .entry))) (num (masked (words-at (now (store .entry)) h w) (words-at (now (masks .entry)) a w))) j (now (at .entry)) (now (at .exit)) c r ⌝ }
 {
     let i = at[j];
     if i >= n {
@@ -124,9 +143,9 @@ fn take_head(
     if !same(store, i * stride + 1, h, masks, j * w, a, g.k) {
         return c;
     }
-    let k = crate::streams::sign_of(store, i * stride + 1, w, g, signs, j);
+    let k = crate::streams::multiplier_of(store, i * stride + 1, w, g, multipliers, j);
     let x = store[i * stride];
-    at[j] = crate::streams::next(store, n, w, g, signs, j, i + 1);
+    at[j] = crate::streams::next(store, n, w, g, multipliers, j, i + 1);
     added(c, k, x, g.l)
 }
 
@@ -136,21 +155,21 @@ pub fn sweep(
     n: usize,
     w: usize,
     g: Gate,
-    signs: &[u8],
+    multipliers: &[i16],
     masks: &[u64],
     at: &mut [usize],
     h: usize,
     a: usize,
 ) -> u64
-    requires { ⌜ Held (now store) n w g (now signs) × Masks (now store) (now masks) n w (length (now at)) (g .k) × (length (now at) ≤ 4) × Short (now store) (now masks) h a w (g .k)
-        × ((i : ℕ) → i < length (now at) → Loaded g (now signs) (decoded w n (now store)) (now at) i)
-        × ((i : ℕ) → i < length (now at) → Below (suc (num (masked (words-at (now store) h w) (words-at (now masks) a w)))) (rest g (now signs) (mask-at w (now masks)) (decoded w n (now store)) (now at) i)) ⌝ }
-    ensures { λ r. ⌜ Swept g (now (signs .entry)) (mask-at w (now (masks .entry))) (decoded w n (now (store .entry))) (num (masked (words-at (now (store .entry)) h w) (words-at (now (masks .entry)) a w))) (length (now (at .entry))) (now (at .entry)) (now (at .exit)) r ⌝ }
+    requires { ⌜ Held (now store) n w g (now multipliers) × Masks (now store) (now masks) n w (length (now at)) (g .k) × (length (now at) ≤ 8) × Short (now store) (now masks) h a w (g .k)
+        × ((i : ℕ) → i < length (now at) → Loaded g (now multipliers) (decoded w n (now store)) (now at) i)
+        × ((i : ℕ) → i < length (now at) → Below (suc (num (masked (words-at (now store) h w) (words-at (now masks) a w)))) (rest g (now multipliers) (mask-at w (now masks)) (decoded w n (now store)) (now at) i)) ⌝ }
+    ensures { λ r. ⌜ Swept g (now (multipliers .entry)) (mask-at w (now (masks .entry))) (decoded w n (now (store .entry))) (num (masked (words-at (now (store .entry)) h w) (words-at (now (masks .entry)) a w))) (length (now (at .entry))) (now (at .entry)) (now (at .exit)) r ⌝ }
 {
     let mut c = 0;
     let mut j = 0;
     while j < at.len() {
-        c = take_head(store, n, w, g, signs, masks, at, j, h, a, c);
+        c = take_head(store, n, w, g, multipliers, masks, at, j, h, a, c);
         j += 1;
     }
     c

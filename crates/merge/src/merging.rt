@@ -6,7 +6,7 @@ ghost use Rattle.words.specs.Numbers.{words-at, masked};
 ghost use Rattle.words.specs.Stored.{decoded};
 ghost use Rattle.weave.specs.Merging.{Lows};
 ghost use Rattle.weave.specs.Written.{Emitted, Gathered, Behind, Kept};
-ghost use Rattle.merge.specs.Streams.{Next, Held, Masks, stream, streams};
+ghost use Rattle.merge.specs.Streams.{streams-of, Next, Held, Masks, stream, streams};
 ghost use Rattle.gates.specs.Masks.{mask-at};
 use crate::streams::Gate;
 
@@ -42,16 +42,16 @@ fn run(
     n: usize,
     w: usize,
     g: Gate,
-    signs: &[u8],
+    multipliers: &[i16],
     masks: &[u64],
     at: &mut [usize],
     scratch: &mut [u64],
     limit: usize,
 ) -> usize
-    requires { ⌜ Held (now store) n w g (now signs) × Masks (now store) (now masks) n w (length (now at)) (g .k) × (0 < length (now at)) × (length (now at) ≤ 4) × (limit * (w + 1) ≤ length (now scratch))
-        × Lows (2 ^ (64 * w)) (length (now at)) (λ j. stream g (now signs) (mask-at w (now masks)) j (decoded w n (now store)))
-        × ((j : ℕ) → j < length (now at) → Next g (now signs) j (decoded w n (now store)) 0 (getD (now at) j 0)) ⌝ }
-    ensures { λ r. ⌜ Gathered limit (gather (2 ^ g .l) (streams g (now (signs .entry)) (mask-at w (now (masks .entry))) (length (now (at .entry))) (decoded w n (now (store .entry))))) (decoded w r (now (scratch .exit))) r
+    requires { ⌜ Held (now store) n w g (now multipliers) × Masks (now store) (now masks) n w (length (now at)) (g .k) × (0 < length (now at)) × (length (now at) ≤ 8) × (limit * (w + 1) ≤ length (now scratch))
+        × Lows (2 ^ (64 * w)) (length (now at)) (λ j. stream g (now multipliers) (mask-at w (now masks)) j (decoded w n (now store)))
+        × ((j : ℕ) → j < length (now at) → Next g (now multipliers) j (decoded w n (now store)) 0 (getD (now at) j 0)) ⌝ }
+    ensures { λ r. ⌜ Gathered limit (gather (2 ^ g .l) (streams g (now (multipliers .entry)) (mask-at w (now (masks .entry))) (length (now (at .entry))) (decoded w n (now (store .entry))))) (decoded w r (now (scratch .exit))) r
         × Behind w limit r (now (scratch .entry)) (now (scratch .exit)) ⌝ }
 {
     let stride = w + 1;
@@ -64,32 +64,43 @@ fn run(
         }
         let h = i * stride + 1;
         let a = b * w;
-        let c = crate::heads::sweep(store, n, w, g, signs, masks, at, h, a);
+        let c = crate::heads::sweep(store, n, w, g, multipliers, masks, at, h, a);
         out = emit(store, h, masks, a, w, scratch, out, limit, c);
     }
     out
 }
 
-// All four streams gathered into scratch, at most `limit` terms: how many. With more the answer is limit + 1, and what was written is
+// All streams of a gate gathered into scratch, at most `limit` terms: how many. With more the answer is limit + 1, and what was written is
 // cleared.
 pub fn merge(
     store: &[u64],
     n: usize,
     w: usize,
     g: Gate,
-    signs: &[u8],
+    multipliers: &[i16],
     masks: &[u64],
     scratch: &mut [u64],
     limit: usize,
 ) -> usize
-    requires { ⌜ Held (now store) n w g (now signs) × Masks (now store) (now masks) n w 4 (g .k) × (limit * (w + 1) ≤ length (now scratch))
-        × Lows (2 ^ (64 * w)) 4 (λ j. stream g (now signs) (mask-at w (now masks)) j (decoded w n (now store))) ⌝ }
-    ensures { λ r. ⌜ Gathered limit (gather (2 ^ g .l) (streams g (now (signs .entry)) (mask-at w (now (masks .entry))) 4 (decoded w n (now (store .entry))))) (decoded w r (now (scratch .exit))) r
+    requires { ⌜ Held (now store) n w g (now multipliers) × Masks (now store) (now masks) n w (streams-of g) (g .k) × (limit * (w + 1) ≤ length (now scratch))
+        × Lows (2 ^ (64 * w)) (streams-of g) (λ j. stream g (now multipliers) (mask-at w (now masks)) j (decoded w n (now store))) ⌝ }
+    ensures { λ r. ⌜ Gathered limit (gather (2 ^ g .l) (streams g (now (multipliers .entry)) (mask-at w (now (masks .entry))) (streams-of g) (decoded w n (now (store .entry))))) (decoded w r (now (scratch .exit))) r
         × Kept w limit r (now (scratch .entry)) (now (scratch .exit)) ⌝ }
 {
-    let mut at = [0usize; 4];
-    crate::streams::begin(store, n, w, g, signs, &mut at);
-    let count = run(store, n, w, g, signs, masks, &mut at, scratch, limit);
+    let streams = crate::streams::streams_of(g);
+    let mut at = [0usize; 8];
+    crate::streams::begin(store, n, w, g, multipliers, &mut at[..streams]);
+    let count = run(
+        store,
+        n,
+        w,
+        g,
+        multipliers,
+        masks,
+        &mut at[..streams],
+        scratch,
+        limit,
+    );
     if count > limit {
         words::stretches::clear(scratch, 0, limit * (w + 1));
     }

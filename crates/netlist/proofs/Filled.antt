@@ -9,11 +9,14 @@ use lib.Bits.{bitAnd, bitXor, and-zero-l, and-zero-r, and-self, xor-zero-l, xor-
 use lib.ListN.{length, getD, take, set}
 use lib.Seq.{take-suc-set, getD-take}
 use Rattle.rules.specs.Each.{sum, listed}
-use Rattle.rules.specs.Netlist.{variable, inverted, gate, output, rhs0, rhs1}
-use Rattle.rules.specs.Values.{width, bit, turned, literal-value, input-values, gate-value, values-to, values, shown}
+use Rattle.rules.specs.Netlist.{variable, inverted, gate, output, record-at, EveryVariable}
+use Rattle.rules.specs.Values.{width, bit, turned, literal-value, input-values, record-value, gate-value, values-to, values, shown}
 use Rattle.rules.specs.declared.counts.Counts.{Counts}
+use Rattle.rules.specs.declared.records.Record.{Record}
+use Rattle.rules.specs.declared.records.Record.the-variants.{Gate, Cell}
 use Rattle.rules.proofs.Indices.{sum-same}
-use Rattle.netlist.specs.Taken.{Sound, Bits}
+use Rattle.rules.proofs.Sound.{SoundRecord, every-variable}
+use Rattle.netlist.specs.Taken.{Sound, Bits, BitAt, Readable}
 use Rattle.netlist.proofs.Facts.{Facts, output-within}
 
 -- a store behind what is filled
@@ -24,6 +27,13 @@ take-more xs k b h = rw (add-one k) (take-suc-set xs k b h)
 literal-take : (n : ℕ) (xs : List ℕ) (x : ℕ) → variable x < n → literal-value (take n xs) x ≡ literal-value xs x
 unfolding literal-value
 literal-take n xs x h = rw (getD-take n xs (variable x) 0 h)
+
+-- and so does a record
+record-take : (n : ℕ) (xs : List ℕ) (r : Record) → EveryVariable (λ w. w < n) r → record-value (take n xs) r ≡ record-value xs r
+unfolding record-value
+record-take n xs (Gate x y) h = rw (literal-take n xs x (h .0), literal-take n xs y (h .1))
+record-take n xs (Cell byte x1 x2 x3) h =
+    rw (getD-take n xs x1 0 (h .0), getD-take n xs x2 0 (h .1), getD-take n xs x3 0 (h .2))
 
 -- the value of a literal is 0 or 1 where its variable's is
 pub literal-bit : (xs : List ℕ) (x : ℕ) → getD xs (variable x) 0 ≤ 1 → literal-value xs x ≤ 1
@@ -68,18 +78,27 @@ pub inputs-put : (xs ys zs : List ℕ) (n a b : ℕ) → 0 < length xs → take 
 unfolding input-values
 inputs-put xs ys zs n a b h e f = rw (f, e, take-suc-set xs 0 0 h)
 
+-- the bits below a gate are those that its record reads
+pub readable : (v : ℕ) (xs : List ℕ) (r : Record) → v < length xs → Bits v xs → SoundRecord v r → Readable xs r
+unfolding Bits
+readable v xs r l bits s =
+    record { bits = every-variable (λ w. w < v) (BitAt xs) (λ w h. (omega arith, bits w h)) r (s .low); byte = s .byte }
+
 -- the value of gate v, behind those of the variables below it
-pub gate-put : (c : Counts) (table xs : List ℕ) (v x y : ℕ) → v < length xs
-    → (variable (rhs0 c table v) < v) × (variable (rhs1 c table v) < v)
-    → x ≡ literal-value xs (rhs0 c table v) → y ≡ literal-value xs (rhs1 c table v)
-    → take (v + 1) (set xs v (x * y)) ≡ take v xs ++ gate-value c table (take v xs) v ∷ []
+pub gate-put : (c : Counts) (table xs : List ℕ) (v x : ℕ) → v < length xs → SoundRecord v (record-at c table v)
+    → x ≡ record-value xs (record-at c table v) → take (v + 1) (set xs v x) ≡ take v xs ++ gate-value c table (take v xs) v ∷ []
 unfolding gate-value
-gate-put c table xs v x y h w ex ey =
-    rw (take-more xs v (x * y) h, literal-take v xs (rhs0 c table v) (w .0), literal-take v xs (rhs1 c table v) (w .1), ex, ey)
+gate-put c table xs v x h s e = rw (take-more xs v x h, record-take v xs (record-at c table v) (s .low), e)
 
 -- each entry of a list is 0 or 1
 abbrev All-bits : List ℕ → Type 0
 All-bits xs = (j : ℕ) → getD xs j 0 ≤ 1
+
+-- a record of such entries is 0 or 1
+record-bit : (xs : List ℕ) (r : Record) → All-bits xs → record-value xs r ≤ 1
+unfolding record-value bit
+record-bit xs (Gate x y) h = times-bit _ _ (literal-bit xs x (h _)) (literal-bit xs y (h _))
+record-bit xs (Cell byte x1 x2 x3) h = omega arith
 
 -- with one more
 one-more : (xs : List ℕ) (b : ℕ) → All-bits xs → b ≤ 1 → All-bits (xs ++ b ∷ [])
@@ -106,7 +125,7 @@ module _ (c : Counts) (table : List ℕ) (a b : ℕ) where
   values-bit (suc k) =
       let xs = values-to c table a b k in
       let h = values-bit k in
-      one-more xs _ h (times-bit _ _ (literal-bit xs _ (h _)) (literal-bit xs _ (h _)))
+      one-more xs _ h (record-bit xs (record-at c table (gate c k)) h)
 
   -- so is each entry of a list that begins with the values
   pub bits-filled : (xs : List ℕ) (k n : ℕ) → take n xs ≡ values-to c table a b k → Bits n xs

@@ -1,8 +1,9 @@
 // The counts of a header, and the length of the table that they ask for.
 use rules::counts::Counts;
 use rules::limits::Limits;
+use rules::records::RecordKind;
 ghost use mathlib.Core.Path.{_≡_};
-ghost use Rattle.rules.specs.Netlist.{counts-wrong, table-short};
+ghost use Rattle.rules.specs.Netlist.{counts-wrong, record-words, table-short};
 
 // Whether a count lies outside its limits. I + A is the sum of whole numbers, so it is taken in 64 bits.
 pub fn counts_wrong(c: Counts) -> bool
@@ -19,9 +20,20 @@ pub fn counts_wrong(c: Counts) -> bool
     !right
 }
 
-// Whether a table of so many words is too short for the outputs and two words for each gate.
+// The words of a record: two literals, or a byte and three variables.
+fn record_words(records: RecordKind) -> u64
+    ensures { λ r. ⌜ r ≡ record-words records ⌝ }
+{
+    match records {
+        RecordKind::Gates => 2,
+        RecordKind::Cells => 4,
+    }
+}
+
+// Whether a table of so many words is too short for the outputs and a record for each gate.
 pub fn table_short(c: Counts, words: usize) -> bool
     ensures { λ r. ⌜ r ≡ table-short c words ⌝ }
 {
-    (words as u64) < c.o as u64 + 2 * (c.a as u64)
+    let records = c.records;
+    (words as u64) < c.o as u64 + record_words(records) * (c.a as u64)
 }

@@ -1,6 +1,6 @@
 // Counts and tables: whether they are sound, and the word that a netlist's outputs show for one operand pair.
 pub mod counts; // counts.rt: the counts of a header, and the table's length
-pub mod table; // table.rt: the literals of outputs and gates, and their rules
+pub mod table; // table.rt: the literals of outputs, the records of gates, and their rules
 pub mod values; // values.rt: the values of the variables, and the word of the outputs
 
 use crate::counts::counts_wrong;

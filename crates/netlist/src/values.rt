@@ -1,25 +1,25 @@
 // The values of a netlist's variables for one operand pair, and the word that its outputs show.
 use crate::table::output;
-use crate::table::rhs0;
-use crate::table::rhs1;
+use crate::table::record_at;
 use rules::counts::Counts;
 use rules::limits::Limits;
+use rules::records::Record;
 ghost use mathlib.Core.Path.{_≡_};
 ghost use mathlib.Core.List.{[], _∷_, _++_};
 ghost use Prim.Native.Nat.{_+_, _*_, _^_, _<_, _≤_};
-ghost use lib.ListN.{length, getD, take};
+ghost use lib.ListN.{length, take};
 ghost use Rattle.rules.specs.Each.{sum, listed};
 ghost use Rattle.rules.specs.Netlist.{variable, output as output-of};
-ghost use Rattle.rules.specs.Values.{bit, literal-value, input-values, gate-value};
+ghost use Rattle.rules.specs.Values.{bit, literal-value, input-values, record-value, gate-value};
 ghost use Rattle.rules.specs.Values as rule;
-ghost use Rattle.netlist.specs.Taken.{Sound, Bits};
+ghost use Rattle.netlist.specs.Taken.{Sound, Bits, BitAt, Readable};
 
 // A byte for each variable that there may be, and for variable 0.
 const HELD: usize = 1 + Limits::VARIABLES_MOST as usize;
 
 // The value of literal x.
 fn literal(values: &[u8], x: u32) -> u8
-    requires { ⌜ (variable x < length (now values)) × (getD (now values) (variable x) 0 ≤ 1) ⌝ }
+    requires { ⌜ BitAt (now values) (variable x) ⌝ }
     ensures { λ r. ⌜ r ≡ literal-value (now (values .entry)) x ⌝ }
 {
     values[(x / 2) as usize] ^ (x % 2) as u8
@@ -47,14 +47,27 @@ fn put_inputs(n: u32, a: u64, b: u64, values: &mut [u8])
     put_bits(b, n, 1 + n as usize, values);
 }
 
+// The value of a record: the AND of its two literals, or the bit of its truth byte that its three variables name.
+fn record_value(values: &[u8], parts: Record) -> u8
+    requires { ⌜ Readable (now values) parts ⌝ }
+    ensures { λ r. ⌜ r ≡ record-value (now (values .entry)) parts ⌝ }
+{
+    match parts {
+        Record::Gate { x, y } => literal(values, x) & literal(values, y),
+        Record::Cell { byte, x1, x2, x3 } => {
+            let index = values[x1 as usize] + 2 * values[x2 as usize] + 4 * values[x3 as usize];
+            ((byte >> index) % 2) as u8
+        }
+    }
+}
+
 // Writes the value of gate v behind those of the variables below it.
 fn put_gate(c: Counts, table: &[u32], v: u32, values: &mut [u8])
     requires { ⌜ Sound c (now table) × (c .i < v) × (v ≤ c .m) × (v < length (now values)) × Bits v (now values) ⌝ }
     ensures { λ r. ⌜ take (v + 1) (now (values .exit)) ≡ take v (now (values .entry)) ++ gate-value c (now (table .entry)) (take v (now (values .entry))) v ∷ [] ⌝ }
 {
-    let x = literal(values, rhs0(c, table, v));
-    let y = literal(values, rhs1(c, table, v));
-    values[v as usize] = x & y;
+    let value = record_value(values, record_at(c, table, v));
+    values[v as usize] = value;
 }
 
 // Writes the values of all variables.

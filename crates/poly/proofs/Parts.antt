@@ -12,6 +12,7 @@ use borrow.Author.Tests.{eq-eqb, ne-eqb}
 use Rattle.rules.specs.Values.{bit}
 use Rattle.rules.specs.Polynomial.{Term, Polynomial, Below, Coefficients, coefficient-at, hit, keep, place, insert, gather}
 use Rattle.rules.specs.Steps.{where-held, replaced, all-replaced}
+use Rattle.rules.specs.declared.records.Record.{Record}
 use Rattle.rules.proofs.Terms.{coefficient-append}
 use Rattle.rules.proofs.Gathered.{gather-same, gather-coefficient, unique, under-of}
 use Rattle.weave.specs.Seeking.{Free}
@@ -52,35 +53,35 @@ holding-front v (suc end) [] h = refl
 holding-front v (suc end) (t ∷ p) h =
     ap (λ (q : Polynomial). cond (eqb (bit (t .1) v) 1) (t ∷ q) q) (holding-front v end p (λ i a b. h (suc i) (omega arith) (omega arith)))
 
-module _ (m v x y : ℕ) where
+module _ (m v : ℕ) (r : Record) where
   -- a term that does not hold v stays
-  stays : (t : Term) (u : ℕ) → bit (t .1) v ≡ 0 → coefficient-at (replaced m v x y t) u ≡ hit u (t .1) (t .0)
+  stays : (t : Term) (u : ℕ) → bit (t .1) v ≡ 0 → coefficient-at (replaced m v r t) u ≡ hit u (t .1) (t .0)
   unfolding replaced where-held coefficient-at
   stays t u e = rw e (omega arith)
 
   -- the coefficients of both parts
-  parts : (p : Polynomial) (u : ℕ) → coefficient-at (all-replaced m v x y p) u ≡ coefficient-at (without v p) u + coefficient-at (all-replaced m v x y (holding v p)) u
+  parts : (p : Polynomial) (u : ℕ) → coefficient-at (all-replaced m v r p) u ≡ coefficient-at (without v p) u + coefficient-at (all-replaced m v r (holding v p)) u
   unfolding all-replaced without holding coefficient-at
   parts [] u = refl
   parts (t ∷ p) u = ⊎-elim
-      (λ (e : bit (t .1) v ≡ 0). rw (first v t p e .0, first v t p e .1, coefficient-append (replaced m v x y t) (all-replaced m v x y p) u, stays t u e) (omega (arith, parts p u)))
-      (λ (e : bit (t .1) v ≡ 1). rw (second v t p e .0, second v t p e .1, coefficient-append (replaced m v x y t) (all-replaced m v x y p) u, coefficient-append (replaced m v x y t) (all-replaced m v x y (holding v p)) u) (omega (arith, parts p u)))
+      (λ (e : bit (t .1) v ≡ 0). rw (first v t p e .0, first v t p e .1, coefficient-append (replaced m v r t) (all-replaced m v r p) u, stays t u e) (omega (arith, parts p u)))
+      (λ (e : bit (t .1) v ≡ 1). rw (second v t p e .0, second v t p e .1, coefficient-append (replaced m v r t) (all-replaced m v r p) u, coefficient-append (replaced m v r t) (all-replaced m v r (holding v p)) u) (omega (arith, parts p u)))
       (bit-two (t .1) v)
 
   -- both parts gathered are the step
-  both : 0 < m → (p : Polynomial) → gather m (without v p ++ all-replaced m v x y (holding v p)) ≡ gather m (all-replaced m v x y p)
+  both : 0 < m → (p : Polynomial) → gather m (without v p ++ all-replaced m v r (holding v p)) ≡ gather m (all-replaced m v r p)
   both l p =
-      gather-same m (without v p ++ all-replaced m v x y (holding v p)) (all-replaced m v x y p) l
-      (λ u. ap (λ (z : ℕ). z % m) (coefficient-append (without v p) (all-replaced m v x y (holding v p)) u ∙ sym (parts p u)))
+      gather-same m (without v p ++ all-replaced m v r (holding v p)) (all-replaced m v r p) l
+      (λ u. ap (λ (z : ℕ). z % m) (coefficient-append (without v p) (all-replaced m v r (holding v p)) u ∙ sym (parts p u)))
 
   -- also where the second is gathered first
-  pub step-parts : 0 < m → (p : Polynomial) → gather m (without v p ++ gather m (all-replaced m v x y (holding v p))) ≡ gather m (all-replaced m v x y p)
+  pub step-parts : 0 < m → (p : Polynomial) → gather m (without v p ++ gather m (all-replaced m v r (holding v p))) ≡ gather m (all-replaced m v r p)
   step-parts l p =
-      gather-same m (without v p ++ gather m (all-replaced m v x y (holding v p))) (without v p ++ all-replaced m v x y (holding v p)) l
-      (λ u. rw (coefficient-append (without v p) (gather m (all-replaced m v x y (holding v p))) u, coefficient-append (without v p) (all-replaced m v x y (holding v p)) u)
-      (sym (add-mod-mod (coefficient-at (without v p) u) (coefficient-at (gather m (all-replaced m v x y (holding v p))) u) m)
-      ∙ ap (λ (z : ℕ). (coefficient-at (without v p) u + z) % m) (gather-coefficient m (all-replaced m v x y (holding v p)) u)
-      ∙ add-mod-mod (coefficient-at (without v p) u) (coefficient-at (all-replaced m v x y (holding v p)) u) m))
+      gather-same m (without v p ++ gather m (all-replaced m v r (holding v p))) (without v p ++ all-replaced m v r (holding v p)) l
+      (λ u. rw (coefficient-append (without v p) (gather m (all-replaced m v r (holding v p))) u, coefficient-append (without v p) (all-replaced m v r (holding v p)) u)
+      (sym (add-mod-mod (coefficient-at (without v p) u) (coefficient-at (gather m (all-replaced m v r (holding v p))) u) m)
+      ∙ ap (λ (z : ℕ). (coefficient-at (without v p) u + z) % m) (gather-coefficient m (all-replaced m v r (holding v p)) u)
+      ∙ add-mod-mod (coefficient-at (without v p) u) (coefficient-at (all-replaced m v r (holding v p)) u) m))
       ∙ both l p
 
 -- a term in front, or not
@@ -109,18 +110,18 @@ gather-length m [] b = omega arith
 gather-length m (t ∷ a) b = omega (arith, insert-length m (t .0) (t .1) (gather m (a ++ b)), gather-length m a b)
 
 -- where the second part alone is more than twice the limit, the terms of the first cannot cancel enough
-pub step-more : (m v x y limit : ℕ) (p : Polynomial) → 0 < m → length p ≤ limit → 2 * limit < length (gather m (all-replaced m v x y (holding v p)))
-    → limit < length (gather m (all-replaced m v x y p))
-step-more m v x y limit p l h k =
-    rw (← both m v x y l p) (omega (arith, gather-length m (without v p) (all-replaced m v x y (holding v p)), without-length v p))
+pub step-more : (m v : ℕ) (r : Record) (limit : ℕ) (p : Polynomial) → 0 < m → length p ≤ limit → 2 * limit < length (gather m (all-replaced m v r (holding v p)))
+    → limit < length (gather m (all-replaced m v r p))
+step-more m v r limit p l h k =
+    rw (← both m v r l p) (omega (arith, gather-length m (without v p) (all-replaced m v r (holding v p)), without-length v p))
 
 -- a term without v stays
-replaced-absent : (m v x y : ℕ) (p : Polynomial) → Free v p 0 (length p) → all-replaced m v x y p ≡ p
+replaced-absent : (m v : ℕ) (r : Record) (p : Polynomial) → Free v p 0 (length p) → all-replaced m v r p ≡ p
 unfolding all-replaced replaced where-held
-replaced-absent m v x y [] h = refl
-replaced-absent m v x y (t ∷ p) h = rw (h 0 (omega arith) (omega arith), replaced-absent m v x y p (λ i a b. h (suc i) (omega arith) (omega arith)))
+replaced-absent m v r [] h = refl
+replaced-absent m v r (t ∷ p) h = rw (h 0 (omega arith) (omega arith), replaced-absent m v r p (λ i a b. h (suc i) (omega arith) (omega arith)))
 
 -- where v does not occur nothing changes
-pub step-absent : (m v x y b : ℕ) (p : Polynomial) → 0 < m → Below b p → Coefficients m p → Free v p 0 (length p) → gather m (all-replaced m v x y p) ≡ p
-step-absent m v x y b p h l c a =
-    rw (replaced-absent m v x y p a) (sym (unique m b p p h l c (under-of b b p (omega arith) l) (λ u. refl)))
+pub step-absent : (m v : ℕ) (r : Record) (b : ℕ) (p : Polynomial) → 0 < m → Below b p → Coefficients m p → Free v p 0 (length p) → gather m (all-replaced m v r p) ≡ p
+step-absent m v r b p h l c a =
+    rw (replaced-absent m v r p a) (sym (unique m b p p h l c (under-of b b p (omega arith) l) (λ u. refl)))

@@ -2,34 +2,37 @@
 use mathlib.Core.Path.{_≡_, refl, ap, sym, _∙_}
 use mathlib.Core.Bool.{Bool, true, false, cond}
 use mathlib.Core.List.{List, _++_, append-assoc}
-use Prim.Native.Nat.{ℕ, _+_, _-_, _*_, _/_, _^_, _<_, _≤_}
+use Prim.Native.Nat.{ℕ, _+_, _-_, _*_, _^_, _<_, _≤_}
 use native.Mathlib.Nat.{sub-zero, add-mul, mul-le-mul-right}
 use native.Mathlib.Omega.{arith}
 use lib.Dec.{ltb, leb}
+use lib.IntN.{ℤ}
 use lib.ListN.{length, getD, take, drop, replicate, length-append, length-drop, length-replicate, replicate-append-replicate}
 use lib.Pow.{pow-pos, pow-mono}
 use lib.Seq.{drop-drop, take-add, take-at, drop-at, length-take-le, getD-drop}
 use borrow.Author.Tests.{ltb-true, ltb-false, le-leb, lt-leb}
 use Rattle.rules.specs.Judging.{polynomial-words, padded}
-use Rattle.rules.specs.Netlist.{variable}
+use Rattle.rules.specs.Netlist.{EveryVariable}
 use Rattle.rules.specs.Polynomial.{Polynomial, Below, gather}
 use Rattle.rules.specs.Steps.{all-replaced}
 use Rattle.rules.specs.Values.{bit}
+use Rattle.rules.specs.declared.records.Record.{Record}
+use Rattle.rules.specs.declared.records.Record.the-variants.{Gate, Cell}
 use Rattle.rules.proofs.Bits.{bit-out}
 use Rattle.words.specs.Stored.{decoded}
 use Rattle.words.proofs.Stored.{length-decoded, decoded-drop, stride-le}
 use Rattle.words.proofs.Encoded.{zeros-later, length-polynomial-words, polynomial-words-append, words-decoded, zeros-behind}
-use Rattle.gates.specs.Literals.{Apart}
+use Rattle.gates.specs.Apart.{Apart}
+use Rattle.gates.specs.Rows.{row-of}
 use Rattle.weave.specs.Seeking.{Last, Uses}
 use Rattle.weave.specs.Weaving.{old-terms, Joined}
 use Rattle.weave.specs.Written.{Kept}
 use Rattle.weave.proofs.Growing.{behind-limit, kept-behind}
 use Rattle.weave.proofs.Places.{set-below}
 use Rattle.poly.specs.Stepping.{Prepared, Both, Together, Ready, Stepped}
-use Rattle.gates.specs.declared.literals.Pair.{Pair}
+use Rattle.gates.specs.declared.apart.Variables.{Variables}
 use Rattle.weave.specs.declared.weaving.Parts.{Parts}
 use Rattle.weave.specs.declared.weaving.Sizes.{Sizes}
-use Rattle.gates.proofs.Replacing.{step-alike, small-of}
 use Rattle.poly.proofs.Parts.{step-absent}
 use Rattle.poly.proofs.Restored.{front-again}
 
@@ -208,10 +211,10 @@ module _ (z : Sizes) (r : Parts) (q : Polynomial) (store scratch made store′ s
       }
 
 -- v does not occur: the step changes nothing
-pub stepped-same : (w l v x y limit held : ℕ) (store scratch : List ℕ) → Ready w l v x y limit held store scratch → (end : ℕ) → Last v (decoded w held store) end → end ≡ 0
-    → Stepped w limit (gather (2 ^ l) (all-replaced (2 ^ l) v x y (decoded w held store))) store scratch held store scratch
-stepped-same w l v x y limit held store scratch h end o z =
-    let e : gather (2 ^ l) (all-replaced (2 ^ l) v x y (decoded w held store)) ≡ decoded w held store = step-absent (2 ^ l) v x y (2 ^ (64 * w)) (decoded w held store) (pow-pos l) (h .falls) (h .coefficients) (rw z at (o .free)) in
+pub stepped-same : (w l v : ℕ) (r : Record) (limit held : ℕ) (store scratch : List ℕ) → Ready w l v r limit held store scratch → (end : ℕ) → Last v (decoded w held store) end → end ≡ 0
+    → Stepped w limit (gather (2 ^ l) (all-replaced (2 ^ l) v r (decoded w held store))) store scratch held store scratch
+stepped-same w l v r limit held store scratch h end o z =
+    let e : gather (2 ^ l) (all-replaced (2 ^ l) v r (decoded w held store)) ≡ decoded w held store = step-absent (2 ^ l) v r (2 ^ (64 * w)) (decoded w held store) (pow-pos l) (h .falls) (h .coefficients) (rw z at (o .free)) in
     let t : leb (length (decoded w held store)) limit ≡ true = le-leb _ limit (omega (arith, length-decoded w held store, h .held-most)) in
     record {
       counted = rw (e, t) (sym (length-decoded w held store));
@@ -228,9 +231,9 @@ held-low s v e b l = go (ltb v e) refl
     go false d = let m : 2 ^ e ≤ 2 ^ v = pow-mono (ltb-false v e d) in absurd (omega (arith, bit-out s v b .0))
 
 -- what the look for the words used asks, where some term holds v
-pub used-asks : (w l v x y limit held end : ℕ) (store scratch : List ℕ) → Ready w l v x y limit held store scratch → Last v (decoded w held store) end → (end ≡ 0 → ⊥)
+pub used-asks : (w l v : ℕ) (r : Record) (limit held end : ℕ) (store scratch : List ℕ) → Ready w l v r limit held store scratch → Last v (decoded w held store) end → (end ≡ 0 → ⊥)
     → (held * (w + 1) ≤ length store) × (w ≤ 16) × (0 < held) × (0 < w) × Below (2 ^ (64 * w)) (decoded w held store)
-used-asks w l v x y limit held end store scratch h o z = (
+used-asks w l v r limit held end store scratch h o z = (
   stride-le held limit w (length store) (h .held-most) (h .store-room),
   h .narrow,
   omega (arith, o .high, z, length-decoded w held store),
@@ -238,39 +241,37 @@ used-asks w l v x y limit held end store scratch h o z = (
   h .falls,
 )
 
--- the literals brought apart
-module _ (w l v x y limit held end : ℕ) (store scratch : List ℕ) (h : Ready w l v x y limit held store scratch) (o : Last v (decoded w held store) end) (z : end ≡ 0 → ⊥) (p : Pair) (a : Apart x y p) (k : ℕ) (u : Uses w (decoded w held store) k) where
-  -- the terms held lie inside the store
-  room : held * (w + 1) ≤ length store
-  room = stride-le held limit w (length store) (h .held-most) (h .store-room)
+-- a record reads some variable, so a bound of all it reads is not 0
+some-below : (v : ℕ) (r : Record) → EveryVariable (λ u. u < v) r → 0 < v
+some-below v (Gate x y) h = omega (arith, h .0)
+some-below v (Cell byte x1 x2 x3) h = omega (arith, h .0)
 
-  -- what the step of their gate asks
-  pub to-replace : Prepared store held w (record { v = v; x = p .x / 2; y = p .y / 2; l = l; k = k }) (p .x) (p .y) end scratch limit
-  unfolding variable
-  to-replace = record {
-    fit = record {
-      room = room;
-      narrow = h .narrow;
-      short = u .within;
-      v-in = held-low (getD (decoded w held store) (end - 1) (0, 0) .1) v (64 * k) (o .held (omega (arith, z))) (set-below (2 ^ (64 * k)) (decoded w held store) (end - 1) (u .falls) (omega (arith, o .high, z)));
-      l-high = h .l-high;
-      x-is = refl;
-      y-is = refl;
-      x-low = omega (arith, a .x-low, h .x-low);
-      y-low = omega (arith, a .y-low, h .y-low);
-      apart = a .apart;
-      falls = u .falls;
-      coefficients = h .coefficients;
-    };
-    few = h .held-most;
-    last = o;
-    some = omega (arith, z);
-    store-room = h .store-room;
-    scratch-room = h .scratch-room;
-    behind = rw (length-decoded w held store) at (zeros-behind w store (decoded w held store) (h .kept));
-    clean = h .clean;
-  }
-
-  -- it is the same step
-  pub same-step : gather (2 ^ l) (all-replaced (2 ^ l) v (p .x) (p .y) (decoded w held store)) ≡ gather (2 ^ l) (all-replaced (2 ^ l) v x y (decoded w held store))
-  same-step = sym (step-alike (2 ^ l) v x y (p .x) (p .y) (pow-pos l) (a .alike (2 ^ l)) (decoded w held store) (small-of (2 ^ l) (decoded w held store) (h .coefficients)))
+-- what the step of a record brought apart asks
+pub to-replace : (w l v : ℕ) (r : Record) (limit held end : ℕ) (store scratch : List ℕ) → Ready w l v r limit held store scratch → Last v (decoded w held store) end → (end ≡ 0 → ⊥)
+    → (q : Variables) (row : List ℤ) → Apart r q (row-of row) → length row ≡ 8 → (k : ℕ) → Uses w (decoded w held store) k
+    → Prepared store held w (record { v = v; x = q .x; y = q .y; z = q .z; l = l; k = k }) r row end scratch limit
+to-replace w l v r limit held end store scratch h o z q row a e k u =
+    let low = a .low v (some-below v r (h .low)) (h .low) in
+    record {
+      fit = record {
+        room = stride-le held limit w (length store) (h .held-most) (h .store-room);
+        narrow = h .narrow;
+        short = u .within;
+        v-in = held-low (getD (decoded w held store) (end - 1) (0, 0) .1) v (64 * k) (o .held (omega (arith, z))) (set-below (2 ^ (64 * k)) (decoded w held store) (end - 1) (u .falls) (omega (arith, o .high, z)));
+        l-high = h .l-high;
+        apart = a;
+        eight = e;
+        x-low = low .0;
+        y-low = low .1;
+        z-low = low .2;
+        falls = u .falls;
+        coefficients = h .coefficients;
+      };
+      few = h .held-most;
+      last = o;
+      some = omega (arith, z);
+      store-room = h .store-room;
+      scratch-room = h .scratch-room;
+      behind = rw (length-decoded w held store) at (zeros-behind w store (decoded w held store) (h .kept));
+      clean = h .clean;
+    }

@@ -7,12 +7,14 @@ use Prim.Native.Nat.{ℕ, _+_, _-_, _*_, _^_, _<_, _≤_}
 use native.Mathlib.Nat.{add-mul, mul-assoc, mul-le-mul-right}
 use native.Mathlib.Omega.{arith}
 use lib.Dec.{leb}
+use lib.IntN.{ℤ}
 use lib.ListN.{length, take, drop, replicate, length-append, length-drop, take-append-drop}
 use lib.Pow.{pow-pos}
 use lib.Seq.{take-all, length-take-le}
 use borrow.Author.Tests.{lt-leb}
 use Rattle.rules.specs.Polynomial.{Polynomial, Below, gather}
 use Rattle.rules.specs.Steps.{all-replaced}
+use Rattle.rules.specs.declared.records.Record.{Record}
 use Rattle.rules.proofs.Gathered.{gather-coefficients}
 use Rattle.words.specs.Stored.{decoded}
 use Rattle.words.proofs.Stored.{decoded-take, length-decoded, stride-le}
@@ -25,7 +27,7 @@ use Rattle.merge.specs.declared.streams.Gate.{Gate}
 use Rattle.poly.proofs.Parts.{holding-front, step-parts, step-more}
 use Rattle.poly.proofs.Restored.{zeros-again, written, part-there, front-zeros, restored}
 
-module _ (store : List ℕ) (n w : ℕ) (g : Gate) (x y end : ℕ) (scratch : List ℕ) (limit : ℕ) (h : Prepared store n w g x y end scratch limit) where
+module _ (store : List ℕ) (n w : ℕ) (g : Gate) (r : Record) (row : List ℤ) (end : ℕ) (scratch : List ℕ) (limit : ℕ) (h : Prepared store n w g r row end scratch limit) where
   -- the terms up to the last that holds v are terms of the store
   end-in : end ≤ n
   end-in = omega (arith, h .last .high, length-decoded w n store)
@@ -39,18 +41,18 @@ module _ (store : List ℕ) (n w : ℕ) (g : Gate) (x y end : ℕ) (scratch : Li
   front-falls b d = rw front (below-front b (take end (decoded w n store)) (drop end (decoded w n store)) (rw (take-append-drop end (decoded w n store)) d))
 
   -- what the streams ask of them
-  pub front-fit : Fit store end w g x y
+  pub front-fit : Fit store end w g r row
   front-fit = record {
     room = stride-le end n w (length store) end-in (h .fit .room);
     narrow = h .fit .narrow;
     short = h .fit .short;
     v-in = h .fit .v-in;
     l-high = h .fit .l-high;
-    x-is = h .fit .x-is;
-    y-is = h .fit .y-is;
+    apart = h .fit .apart;
+    eight = h .fit .eight;
     x-low = h .fit .x-low;
     y-low = h .fit .y-low;
-    apart = h .fit .apart;
+    z-low = h .fit .z-low;
     falls = front-falls (2 ^ (64 * g .k)) (h .fit .falls);
     coefficients = rw front (coefficients-take (2 ^ g .l) end (decoded w n store) (h .fit .coefficients));
   }
@@ -74,7 +76,7 @@ module _ (store : List ℕ) (n w : ℕ) (g : Gate) (x y end : ℕ) (scratch : Li
   -- what was made there, and scratch then
   module _ (made : ℕ) (part s1 : List ℕ) (lp : length part ≡ length (take (length scratch - limit * (w + 1)) (drop (limit * (w + 1)) scratch)))
       (e1 : s1 ≡ take (limit * (w + 1)) scratch ++ (part ++ drop (length scratch - limit * (w + 1)) (drop (limit * (w + 1)) scratch)))
-      (gs : Gathered (2 * limit) (gather (2 ^ g .l) (all-replaced (2 ^ g .l) (g .v) x y (holding (g .v) (decoded w end store)))) (decoded w made part) made)
+      (gs : Gathered (2 * limit) (gather (2 ^ g .l) (all-replaced (2 ^ g .l) (g .v) r (holding (g .v) (decoded w end store)))) (decoded w made part) made)
       (fs : (e : ℕ) → g .v < e → Below (2 ^ e) (decoded w end store) → made ≤ 2 * limit → Below (2 ^ e) (decoded w made part))
       (bs : Kept w (2 * limit) made (take (length scratch - limit * (w + 1)) (drop (limit * (w + 1)) scratch)) part) where
     -- the part before it was written
@@ -116,7 +118,7 @@ module _ (store : List ℕ) (n w : ℕ) (g : Gate) (x y end : ℕ) (scratch : Li
         falls = h .fit .falls;
         coefficients = h .fit .coefficients;
         new-falls = rw there (fs (64 * g .k) (h .fit .v-in) (front-falls (2 ^ (64 * g .k)) (h .fit .falls)) l);
-        new-coefficients = rw (there, gs .fits l) (gather-coefficients (2 ^ g .l) (all-replaced (2 ^ g .l) (g .v) x y (holding (g .v) (decoded w end store))) (pow-pos (g .l)));
+        new-coefficients = rw (there, gs .fits l) (gather-coefficients (2 ^ g .l) (all-replaced (2 ^ g .l) (g .v) r (holding (g .v) (decoded w end store))) (pow-pos (g .l)));
       };
       last = h .last;
       some = h .some;
@@ -126,10 +128,10 @@ module _ (store : List ℕ) (n w : ℕ) (g : Gate) (x y end : ℕ) (scratch : Li
     }
 
     -- too many were made: so are those of the step, and scratch is zeros again
-    pub step-full : 2 * limit < made → Stepped w limit (gather (2 ^ g .l) (all-replaced (2 ^ g .l) (g .v) x y (decoded w n store))) store scratch (limit + 1) store s1
+    pub step-full : 2 * limit < made → Stepped w limit (gather (2 ^ g .l) (all-replaced (2 ^ g .l) (g .v) r (decoded w n store))) store scratch (limit + 1) store s1
     step-full l =
-        let m : limit < length (gather (2 ^ g .l) (all-replaced (2 ^ g .l) (g .v) x y (decoded w n store))) = step-more (2 ^ g .l) (g .v) x y limit (decoded w n store) (pow-pos (g .l)) (omega (arith, length-decoded w n store, h .few)) (rw same at (gs .full l)) in
-        let u : leb (length (gather (2 ^ g .l) (all-replaced (2 ^ g .l) (g .v) x y (decoded w n store)))) limit ≡ false = lt-leb _ limit m in
+        let m : limit < length (gather (2 ^ g .l) (all-replaced (2 ^ g .l) (g .v) r (decoded w n store))) = step-more (2 ^ g .l) (g .v) r limit (decoded w n store) (pow-pos (g .l)) (omega (arith, length-decoded w n store, h .few)) (rw same at (gs .full l)) in
+        let u : leb (length (gather (2 ^ g .l) (all-replaced (2 ^ g .l) (g .v) r (decoded w n store)))) limit ≡ false = lt-leb _ limit m in
         let e : part ≡ drop (limit * (w + 1)) scratch = zeros-again (limit * (w + 1)) (2 * limit * (w + 1)) scratch part (h .clean) rooms (bs .many l ∙ ap (λ (s : List ℕ). replicate (2 * limit * (w + 1)) 0 ++ drop (2 * limit * (w + 1)) s) before) in
         record {
           counted = rw u refl;
@@ -138,14 +140,14 @@ module _ (store : List ℕ) (n w : ℕ) (g : Gate) (x y end : ℕ) (scratch : Li
         }
 
     -- the terms put together are those of the step, and what was made is cleared
-    pub step-fits : made ≤ 2 * limit → (r : ℕ) (store′ s2 s3 : List ℕ)
-        → Together sizes (gather (2 ^ g .l) (without (g .v) (decoded w n store) ++ decoded w made (drop (limit * (w + 1)) s1))) store s1 r store′ s2
+    pub step-fits : made ≤ 2 * limit → (o : ℕ) (store′ s2 s3 : List ℕ)
+        → Together sizes (gather (2 ^ g .l) (without (g .v) (decoded w n store) ++ decoded w made (drop (limit * (w + 1)) s1))) store s1 o store′ s2
         → s3 ≡ take (limit * (w + 1)) s2 ++ (replicate (limit * (w + 1) + made * (w + 1) - limit * (w + 1)) 0 ++ drop (limit * (w + 1) + made * (w + 1)) s2)
-        → Stepped w limit (gather (2 ^ g .l) (all-replaced (2 ^ g .l) (g .v) x y (decoded w n store))) store scratch r store′ s3
-    step-fits l r store′ s2 s3 t e3 =
-        let new : decoded w made (drop (limit * (w + 1)) s1) ≡ gather (2 ^ g .l) (all-replaced (2 ^ g .l) (g .v) x y (holding (g .v) (decoded w n store))) = rw (there, ← same) (gs .fits l) in
-        let e : gather (2 ^ g .l) (without (g .v) (decoded w n store) ++ decoded w made (drop (limit * (w + 1)) s1)) ≡ gather (2 ^ g .l) (all-replaced (2 ^ g .l) (g .v) x y (decoded w n store)) =
-        ap (λ (q : Polynomial). gather (2 ^ g .l) (without (g .v) (decoded w n store) ++ q)) new ∙ step-parts (2 ^ g .l) (g .v) x y (pow-pos (g .l)) (decoded w n store) in
+        → Stepped w limit (gather (2 ^ g .l) (all-replaced (2 ^ g .l) (g .v) r (decoded w n store))) store scratch o store′ s3
+    step-fits l o store′ s2 s3 t e3 =
+        let new : decoded w made (drop (limit * (w + 1)) s1) ≡ gather (2 ^ g .l) (all-replaced (2 ^ g .l) (g .v) r (holding (g .v) (decoded w n store))) = rw (there, ← same) (gs .fits l) in
+        let e : gather (2 ^ g .l) (without (g .v) (decoded w n store) ++ decoded w made (drop (limit * (w + 1)) s1)) ≡ gather (2 ^ g .l) (all-replaced (2 ^ g .l) (g .v) r (decoded w n store)) =
+        ap (λ (q : Polynomial). gather (2 ^ g .l) (without (g .v) (decoded w n store) ++ q)) new ∙ step-parts (2 ^ g .l) (g .v) r (pow-pos (g .l)) (decoded w n store) in
         record {
           counted = rw e at (t .counted);
           stored = rw e at (t .stored);

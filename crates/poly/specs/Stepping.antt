@@ -4,16 +4,21 @@ use mathlib.Core.Bool.{Bool, cond, _&&_}
 use mathlib.Core.List.{List, [], _∷_}
 use Prim.Native.Nat.{ℕ, _+_, _-_, _*_, _^_, _<_, _≤_}
 use lib.Dec.{eqb, leb, ltb}
+use lib.IntN.{ℤ}
 use lib.ListN.{length, take, drop, replicate}
 use Rattle.rules.specs.Judging.{polynomial-words, padded}
-use Rattle.rules.specs.Netlist.{variable}
+use Rattle.rules.specs.Netlist.{EveryVariable, byte-of}
 use Rattle.rules.specs.Polynomial.{Polynomial, Below, Coefficients}
 use Rattle.rules.specs.Values.{bit}
+use Rattle.rules.specs.declared.records.Record.{Record}
 use Rattle.words.specs.Numbers.{num, words-at}
 use Rattle.words.specs.Stored.{decoded}
 use Rattle.weave.specs.Seeking.{Last}
 use Rattle.weave.specs.Weaving.{Task, old-terms}
 use Rattle.weave.specs.declared.weaving.Sizes.{Sizes}
+use Rattle.gates.specs.Apart.{Apart}
+use Rattle.gates.specs.Rows.{row-of}
+use Rattle.gates.specs.declared.apart.Variables.{Variables}
 use Rattle.merge.specs.declared.streams.Gate.{Gate}
 
 -- the terms that hold v
@@ -21,26 +26,30 @@ unfoldable pub holding : ℕ → Polynomial → Polynomial
 holding v [] = []
 holding v (t ∷ p) = cond (eqb (bit (t .1) v) 1) (t ∷ holding v p) (holding v p)
 
--- a polynomial of n terms is held, whose sets use k of their w words, and the literals x and y are over the gate's variables: two
--- below v, or 0
-pub record Fit (store : List ℕ) (n w : ℕ) (g : Gate) (x y : ℕ) : Type 0 where
+-- the variables that a gate is over
+abbrev pub variables-of : Gate → Variables
+variables-of g = record { x = g .x; y = g .y; z = g .z }
+
+-- a polynomial of n terms is held, whose sets use k of their w words, and the row is what the gate's record is brought apart to, over
+-- the gate's variables, which are below v
+pub record Fit (store : List ℕ) (n w : ℕ) (g : Gate) (r : Record) (row : List ℤ) : Type 0 where
   pub room : n * (w + 1) ≤ length store
   pub narrow : w ≤ 16
   pub short : g .k ≤ w
   pub v-in : g .v < 64 * g .k
   pub l-high : g .l ≤ 64
-  pub x-is : g .x ≡ variable x
-  pub y-is : g .y ≡ variable y
+  pub apart : Apart r (variables-of g) (row-of row)
+  pub eight : length row ≡ 8
   pub x-low : g .x < g .v
   pub y-low : g .y < g .v
-  pub apart : g .x ≡ g .y → g .y ≡ 0
+  pub z-low : g .z < g .v
   pub falls : Below (2 ^ (64 * g .k)) (decoded w n store)
   pub coefficients : Coefficients (2 ^ g .l) (decoded w n store)
 
 -- and some term holds the gate's variable, but none from `end` on; there is room for `limit` terms in the store, and for four
 -- times as many in scratch, with zeros in both wherever no term is
-pub record Prepared (store : List ℕ) (n w : ℕ) (g : Gate) (x y end : ℕ) (scratch : List ℕ) (limit : ℕ) : Type 0 where
-  pub fit : Fit store n w g x y
+pub record Prepared (store : List ℕ) (n w : ℕ) (g : Gate) (r : Record) (row : List ℤ) (end : ℕ) (scratch : List ℕ) (limit : ℕ) : Type 0 where
+  pub fit : Fit store n w g r row
   pub few : n ≤ limit
   pub last : Last (g .v) (decoded w n store) end
   pub some : 0 < end
@@ -72,12 +81,12 @@ pub record Together (z : Sizes) (q : Polynomial) (store scratch : List ℕ) (r :
 
 -- what a step asks: a polynomial of `held` terms over the variables below 64 w, coefficients of l bits, in a store
 -- with room for `limit` terms and scratch for four times as many, with zeros wherever no term is; a gate that reads lower variables
-pub record Ready (w l v x y limit held : ℕ) (store scratch : List ℕ) : Type 0 where
+pub record Ready (w l v : ℕ) (r : Record) (limit held : ℕ) (store scratch : List ℕ) : Type 0 where
   pub narrow : w ≤ 16
   pub l-high : l ≤ 64
   pub v-in : v < 64 * w
-  pub x-low : variable x < v
-  pub y-low : variable y < v
+  pub low : EveryVariable (λ u. u < v) r
+  pub byte : byte-of r ≤ 255
   pub held-most : held ≤ limit
   pub store-room : limit * (w + 1) ≤ length store
   pub scratch-room : 4 * limit * (w + 1) ≤ length scratch

@@ -1,4 +1,4 @@
-// A step of a gate: its variable replaced by the product of its two literals in every term of the store.
+// A step of a gate: its variable replaced by what its record stands for in every term of the store.
 ghost use Prim.Native.Nat.{ℕ, _+_, _*_, _^_, _<_, _≤_};
 ghost use lib.ListN.{length};
 ghost use Rattle.rules.specs.Polynomial.{Below, gather};
@@ -6,34 +6,42 @@ ghost use Rattle.rules.specs.Steps.{all-replaced};
 ghost use Rattle.words.specs.Stored.{decoded};
 ghost use Rattle.weave.specs.Written.{Gathered, Kept};
 ghost use Rattle.poly.specs.Stepping.{holding, Fit, Ready, Prepared, Stepped};
+use gates::apart::Variables;
 use merge::streams::Gate;
+use rules::records::Record;
 use weave::weaving::Sizes;
 
-// What becomes of the terms that hold the gate's variable, where it is the product of the literals x and y, gathered into scratch:
-// how many terms; limit + 1 if there are more than `limit`.
+// What becomes of the terms that hold the gate's variable, where the row is what its record is brought apart to, gathered into scratch:
+// how many terms; limit + 1 if there are more than `limit`. The record is there for the contract alone.
 fn replacements(
     store: &[u64],
     n: usize,
     w: usize,
     g: Gate,
-    x: u32,
-    y: u32,
+    r: Record,
+    row: &[i16],
     scratch: &mut [u64],
     limit: usize,
 ) -> usize
-    requires { ⌜ Fit (now store) n w g x y × (limit * (w + 1) ≤ length (now scratch)) ⌝ }
-    ensures { λ r. ⌜ Gathered limit (gather (2 ^ g .l) (all-replaced (2 ^ g .l) (g .v) x y (holding (g .v) (decoded w n (now (store .entry)))))) (decoded w r (now (scratch .exit))) r
-        × ((e : ℕ) → g .v < e → Below (2 ^ e) (decoded w n (now (store .entry))) → r ≤ limit → Below (2 ^ e) (decoded w r (now (scratch .exit))))
-        × Kept w limit r (now (scratch .entry)) (now (scratch .exit)) ⌝ }
+    requires { ⌜ Fit (now store) n w g r (now row) × (limit * (w + 1) ≤ length (now scratch)) ⌝ }
+    ensures { λ o. ⌜ Gathered limit (gather (2 ^ g .l) (all-replaced (2 ^ g .l) (g .v) r (holding (g .v) (decoded w n (now (store .entry)))))) (decoded w o (now (scratch .exit))) o
+        × ((e : ℕ) → g .v < e → Below (2 ^ e) (decoded w n (now (store .entry))) → o ≤ limit → Below (2 ^ e) (decoded w o (now (scratch .exit))))
+        × Kept w limit o (now (scratch .entry)) (now (scratch .exit)) ⌝ }
 {
-    let mut signs = [0u8; 16];
-    let mut masks = [0u64; 64];
-    gates::signs::sign_table(&mut signs, x, y);
-    gates::masks::mask_table(&mut masks, w, g.v, g.x, g.y);
-    merge::merging::merge(store, n, w, g, &signs, &masks, scratch, limit)
+    let mut multipliers = [0i16; 64];
+    let mut masks = [0u64; 2 * 64];
+    let streams = merge::streams::streams_of(g);
+    let q = Variables {
+        x: g.x,
+        y: g.y,
+        z: g.z,
+    };
+    gates::multipliers::multiplier_table(row, &mut multipliers[..streams * 8]);
+    gates::masks::mask_table(&mut masks, streams, w, g.v, q);
+    merge::merging::merge(store, n, w, g, &multipliers, &masks, scratch, limit)
 }
 
-// The step of gate g, the product of the literals x and y, in the store: how many terms it then holds; limit + 1, and the store as it
+// The step of gate g, whose record is brought apart to the row, in the store: how many terms it then holds; limit + 1, and the store as it
 // was, if there would be more than `limit`. No term from `end` on holds the gate's variable. What becomes of those that do is made
 // behind room for `limit` terms, and then put together with the others; more than twice as many could not be cancelled down to the
 // limit.
@@ -42,19 +50,19 @@ fn replace(
     n: usize,
     w: usize,
     g: Gate,
-    x: u32,
-    y: u32,
+    r: Record,
+    row: &[i16],
     end: usize,
     scratch: &mut [u64],
     limit: usize,
 ) -> usize
-    requires { ⌜ Prepared (now store) n w g x y end (now scratch) limit ⌝ }
-    ensures { λ r. ⌜ Stepped w limit (gather (2 ^ g .l) (all-replaced (2 ^ g .l) (g .v) x y (decoded w n (now (store .entry))))) (now (store .entry)) (now (scratch .entry)) r (now (store .exit)) (now (scratch .exit)) ⌝ }
+    requires { ⌜ Prepared (now store) n w g r (now row) end (now scratch) limit ⌝ }
+    ensures { λ o. ⌜ Stepped w limit (gather (2 ^ g .l) (all-replaced (2 ^ g .l) (g .v) r (decoded w n (now (store .entry))))) (now (store .entry)) (now (scratch .entry)) o (now (store .exit)) (now (scratch .exit)) ⌝ }
 {
     let stride = w + 1;
     let base = limit * stride;
     let most = 2 * limit;
-    let made = replacements(store, end, w, g, x, y, &mut scratch[base..], most);
+    let made = replacements(store, end, w, g, r, row, &mut scratch[base..], most);
     if made > most {
         return limit + 1;
     }
@@ -73,37 +81,36 @@ fn replace(
     held
 }
 
-// The step of gate v with the literals x and y in the store, w words to a set and l bits to a coefficient: how many terms it then
-// holds; limit + 1, and the store as it was, if there would be more than `limit`. Scratch is zeros before and after.
+// The step of gate v with the record r in the store, w words to a set and l bits to a coefficient: how many terms it then holds;
+// limit + 1, and the store as it was, if there would be more than `limit`. Scratch is zeros before and after.
 pub fn step(
     w: usize,
     l: u32,
     v: u32,
-    x: u32,
-    y: u32,
+    r: Record,
     limit: usize,
     held: usize,
     store: &mut [u64],
     scratch: &mut [u64],
 ) -> usize
-    requires { ⌜ Ready w l v x y limit held (now store) (now scratch) ⌝ }
-    ensures { λ r. ⌜ Stepped w limit (gather (2 ^ l) (all-replaced (2 ^ l) v x y (decoded w held (now (store .entry))))) (now (store .entry)) (now (scratch .entry)) r (now (store .exit)) (now (scratch .exit)) ⌝ }
+    requires { ⌜ Ready w l v r limit held (now store) (now scratch) ⌝ }
+    ensures { λ o. ⌜ Stepped w limit (gather (2 ^ l) (all-replaced (2 ^ l) v r (decoded w held (now (store .entry))))) (now (store .entry)) (now (scratch .entry)) o (now (store .exit)) (now (scratch .exit)) ⌝ }
 {
     let gate = v as usize;
     let end = weave::seeking::last_holding(store, held, w, gate);
     if end == 0 {
         return held;
     }
-    let p = gates::literals::apart(x, y);
-    let a = p.x;
-    let b = p.y;
+    let mut row = [0i16; 8];
+    let q = gates::apart::apart(r, &mut row);
     let k = weave::seeking::words_used(store, held, w);
     let g = Gate {
         v: gate,
-        x: (a / 2) as usize,
-        y: (b / 2) as usize,
-        l: l,
-        k: k,
+        x: q.x,
+        y: q.y,
+        z: q.z,
+        l,
+        k,
     };
-    replace(store, held, w, g, a, b, end, scratch, limit)
+    replace(store, held, w, g, r, &row, end, scratch, limit)
 }

@@ -1,18 +1,22 @@
 -- What holds of every set of a polynomial, or of every term, and what a step keeps of it.
 use mathlib.Core.Path.{_≡_}
-use mathlib.Core.Bool.{Bool, true, false}
+use mathlib.Core.Bool.{Bool, true, false, cond}
 use mathlib.Core.List.{List, [], _∷_}
 use mathlib.Core.Logic.{⊎-elim}
 use Prim.Native.Nat.{ℕ, zero, suc, _+_, _-_, _%_, _^_, _<_}
 use native.Mathlib.Omega.{arith}
 use lib.Dec.{eqb, ltb}
+use lib.IntN.{ℤ}
 use Rattle.rules.specs.Each.{joined}
-use Rattle.rules.specs.Netlist.{variable, inverted, output, rhs0, rhs1}
+use Rattle.rules.specs.Netlist.{variable, inverted, output, record-at, EveryVariable}
 use Rattle.rules.specs.Values.{width, bit}
 use Rattle.rules.specs.Product.{Kind}
-use Rattle.rules.specs.Polynomial.{Term, Polynomial, Under, keep, place, insert, gather, with-variable, times-variable, times-literal}
-use Rattle.rules.specs.Steps.{modulus, product-term, start-terms, where-held, replaced, all-replaced, step}
+use Rattle.rules.specs.Polynomial.{Term, Polynomial, Under, keep, place, insert, gather, with-variable, times-variable, times-literal, times-chosen}
+use Rattle.rules.specs.Cells.{coefficient, above, below, scaled}
+use Rattle.rules.specs.Steps.{modulus, product-term, start-terms, where-held, times-subset, times-whole, times-record, replaced, all-replaced, step}
 use Rattle.rules.specs.declared.counts.Counts.{Counts}
+use Rattle.rules.specs.declared.records.Record.{Record}
+use Rattle.rules.specs.declared.records.Record.the-variants.{Gate, Cell}
 use Rattle.rules.proofs.All.{All, all-append, all-joined}
 use Rattle.rules.proofs.Bits.{bit-cases}
 
@@ -97,28 +101,48 @@ all-start P kind c table none joins two =
     (all-joined (λ t. P (t .1)) (width c) (λ i. joined (width c) (products i))
     (λ i k. all-joined (λ t. P (t .1)) (width c) (products i) (λ j l. (two i j k l, tt))))
 
--- P before, and Q after v is replaced by literals whose variables keep Q: Q holds without v, and where v is taken out
+-- of the sets of a polynomial times a variable, where it is chosen
+all-chosen : (P : ℕ → Type 0) (d v : ℕ) (p : Polynomial) → Joins P v → AllSets P p → AllSets P (times-chosen d v p)
+unfolding times-chosen
+all-chosen P zero v p joins h = h
+all-chosen P (suc d) v [] joins h = tt
+all-chosen P (suc d) zero (t ∷ p) joins h = tt
+all-chosen P (suc d) (suc v) (t ∷ p) joins h = (joins (omega arith) (t .1) (h .0), all-chosen P (suc d) (suc v) p joins (h .1))
+
+-- of the sets of a term times what a record stands for
+pub all-record : (P : ℕ → Type 0) (m : ℕ) (r : Record) (t : Term) → EveryVariable (Joins P) r → P (t .1) → AllSets P (times-record m r t)
+unfolding times-record times-whole times-subset
+all-record P m (Gate x y) t joins h = all-literal-sets P m x _ (joins .0) (all-literal-sets P m y _ (joins .1) (h, tt))
+all-record P m (Cell byte x1 x2 x3) t joins h =
+    all-joined (λ t. P (t .1)) 8 (λ u. times-whole m (coefficient byte u) u x1 x2 x3 t) (λ u l. some (coefficient byte u) u (eqb (above (coefficient byte u) + below (coefficient byte u)) 0))
+  where
+    some : (z : ℤ) (u : ℕ) (none : Bool)
+        → AllSets P (cond none [] (times-chosen (bit u 0) x1 (times-chosen (bit u 1) x2 (times-chosen (bit u 2) x3 ((scaled m z (t .0), t .1) ∷ [])))))
+    some z u true = tt
+    some z u false =
+        all-chosen P (bit u 0) x1 _ (joins .0) (all-chosen P (bit u 1) x2 _ (joins .1) (all-chosen P (bit u 2) x3 _ (joins .2) (h, tt)))
+
+-- P before, and Q after v is replaced by a record whose variables keep Q: Q holds without v, and where v is taken out
 module _ (P Q : ℕ → Type 0) (m v : ℕ) (without : (s : ℕ) → bit s v ≡ 0 → P s → Q s) (out : (s : ℕ) → bit s v ≡ 1 → P s → Q (s - 2 ^ v)) where
-  module _ (x y : ℕ) (first : Joins Q (variable x)) (second : Joins Q (variable y)) where
+  module _ (r : Record) (joins : EveryVariable (Joins Q) r) where
     -- of a term
-    all-term-replaced : (t : Term) → P (t .1) → AllSets Q (replaced m v x y t)
+    all-term-replaced : (t : Term) → P (t .1) → AllSets Q (replaced m v r t)
     unfolding replaced where-held
     all-term-replaced t h = ⊎-elim
         (λ (e : bit (t .1) v ≡ 0). rw e (without (t .1) e h, tt))
-        (λ (e : bit (t .1) v ≡ 1). rw e (all-literal-sets Q m x _ first (all-literal-sets Q m y _ second (out (t .1) e h, tt))))
+        (λ (e : bit (t .1) v ≡ 1). rw e (all-record Q m r _ joins (out (t .1) e h)))
         (bit-cases (t .1) v)
 
     -- of every term
-    pub all-terms-replaced : (p : Polynomial) → AllSets P p → AllSets Q (all-replaced m v x y p)
+    pub all-terms-replaced : (p : Polynomial) → AllSets P p → AllSets Q (all-replaced m v r p)
     unfolding all-replaced
     all-terms-replaced [] h = tt
     all-terms-replaced (t ∷ p) h =
-        all-append (λ t. Q (t .1)) (replaced m v x y t) (all-replaced m v x y p) (all-term-replaced t (h .0)) (all-terms-replaced p (h .1))
+        all-append (λ t. Q (t .1)) (replaced m v r t) (all-replaced m v r p) (all-term-replaced t (h .0)) (all-terms-replaced p (h .1))
 
   -- of a step
-  pub all-step : (c : Counts) (table : List ℕ) → Joins Q (variable (rhs0 c table v)) → Joins Q (variable (rhs1 c table v))
+  pub all-step : (c : Counts) (table : List ℕ) → EveryVariable (Joins Q) (record-at c table v)
       → (p : Polynomial) → AllSets P p → AllSets Q (step m c table v p)
   unfolding step
-  all-step c table first second p h =
-      all-gather Q m (all-replaced m v (rhs0 c table v) (rhs1 c table v) p)
-      (all-terms-replaced (rhs0 c table v) (rhs1 c table v) first second p h)
+  all-step c table joins p h =
+      all-gather Q m (all-replaced m v (record-at c table v) p) (all-terms-replaced (record-at c table v) joins p h)

@@ -1,6 +1,6 @@
 -- What holds at every index below a bound, and what is listed there.
 use mathlib.Core.Path.{_≡_, refl, _∙_}
-use mathlib.Core.Bool.{Bool, true, false, _&&_, true≢false}
+use mathlib.Core.Bool.{Bool, true, false, _&&_, _||_, true≢false}
 use mathlib.Core.List.{List, [], _∷_}
 use mathlib.Core.Logic.{_⊎_, ⊎-elim}
 use Prim.Native.Nat.{ℕ, zero, suc, _+_, _<_}
@@ -17,6 +17,11 @@ both true true h = (refl, refl)
 both true false h = (refl, h)
 both false true h = (h, refl)
 both false false h = (h, h)
+
+-- both parts of a choice that does not hold
+pub neither : (a b : Bool) → (a || b) ≡ false → (a ≡ false) × (b ≡ false)
+neither true b h = absurd (true≢false h)
+neither false b h = (refl, h)
 
 -- a test of two parts that hold
 pub and-both : (a b : Bool) → a ≡ true → b ≡ true → (a && b) ≡ true

@@ -15,3 +15,5 @@ pub mod AllSets
 pub mod Trails
 -- outcomes
 pub mod OneOutcome
+-- lookup cells
+pub mod CellRule

@@ -3,7 +3,7 @@ use mathlib.Core.Path.{_≡_, refl, ap, sym, _∙_}
 use mathlib.Core.List.{List}
 use Prim.Native.Nat.{ℕ, zero, suc}
 use lib.ListN.{getD}
-use Rattle.rules.specs.Says.{Says, refuses, answers, says, text-says, word-says, made-says}
+use Rattle.rules.specs.Says.{Says, refuses, answers, says, text-says, text-records, word-says, made-says}
 use Rattle.rules.specs.Limits.{Makes}
 use Rattle.rules.specs.Values.{Evaluated}
 use Rattle.rules.specs.Product.{Wanted}
@@ -19,17 +19,18 @@ use Rattle.rules.specs.declared.answers.Text.the-variants.{Read, Refused
 use Rattle.rules.specs.declared.answers.Word.{Word}
 use Rattle.rules.specs.declared.answers.Word.the-variants.{Is, Refused as RefusedWord}
 use Rattle.rules.specs.declared.counts.Counts.{Counts}
+use Rattle.rules.specs.declared.records.RecordKind.{RecordKind}
 use Rattle.rules.specs.declared.limits.Made.{Made}
 use Rattle.rules.specs.declared.limits.Made.the-variants.{Within, Refused as RefusedMade}
 
--- a word, a text, limits and an answer can be told from what they say
+-- a word, a text of a known kind of record, limits and an answer can be told from what they say
 word-of : Says → Word
 word-of (refuses k) = RefusedWord k
 word-of (answers k x) = Is (getD x 0 0)
 
-text-of : Says → Text
-text-of (refuses k) = RefusedText k
-text-of (answers k x) = Read (record { m = getD x 0 0; i = getD x 1 0; l = getD x 2 0; o = getD x 3 0; a = getD x 4 0 })
+text-of : RecordKind → Says → Text
+text-of records (refuses k) = RefusedText k
+text-of records (answers k x) = Read (record { m = getD x 0 0; i = getD x 1 0; l = getD x 2 0; o = getD x 3 0; a = getD x 4 0; records = records })
 
 made-of : Says → Made
 made-of (refuses k) = RefusedMade k
@@ -47,8 +48,8 @@ unfolding word-of word-says
 word-back (Is x) = refl
 word-back (RefusedWord k) = refl
 
-text-back : (r : Text) → text-of (text-says r) ≡ r
-unfolding text-of text-says
+text-back : (r : Text) → text-of (text-records r) (text-says r) ≡ r
+unfolding text-of text-says text-records
 text-back (Read c) = refl
 text-back (RefusedText k) = refl
 
@@ -72,8 +73,9 @@ known say back told r q e = sym (told r) ∙ ap back e ∙ told q
 pub word-known : (r q : Word) → word-says r ≡ word-says q → r ≡ q
 word-known = known word-says word-of word-back
 
-pub text-known : (r q : Text) → text-says r ≡ text-says q → r ≡ q
-text-known = known text-says text-of text-back
+pub text-known : (r q : Text) → text-records r ≡ text-records q → text-says r ≡ text-says q → r ≡ q
+text-known r q same e =
+    sym (text-back r) ∙ ap (text-of (text-records r)) e ∙ ap (λ (k : RecordKind). text-of k (text-says q)) same ∙ text-back q
 
 pub made-known : (r q : Made) → made-says r ≡ made-says q → r ≡ q
 made-known = known made-says made-of made-back
@@ -96,7 +98,7 @@ wanted-one {r = r} {q = q} x y = word-known r q (x .said ∙ sym (y .said))
 -- one outcome of reading
 pub read-one : {text table : List ℕ} {r q : Text} {s t : List ℕ} → ReadAs text table r s → ReadAs text table q t → (r ≡ q) × (s ≡ t)
 read-one {r = r} {q = q} x y =
-    (text-known r q (x .said ∙ sym (y .said)), x .table-words ∙ sym (y .table-words))
+    (text-known r q (x .records ∙ sym (y .records)) (x .said ∙ sym (y .said)), x .table-words ∙ sym (y .table-words))
 
 -- one outcome of judging
 pub judged-one : {x : Inputs} {r q : Answer} {s w s′ w′ : List ℕ} {g g′ : List StepRecord} → Judged x r s w g → Judged x q s′ w′ g′

@@ -1,16 +1,18 @@
 -- What right counts and a sound table say, by name.
 use mathlib.Core.Path.{_≡_}
-use mathlib.Core.Bool.{Bool, true, false, _&&_}
+use mathlib.Core.Bool.{Bool, true, false, _&&_, _||_}
 use mathlib.Core.List.{List}
 use Prim.Native.Nat.{ℕ, _+_, _-_, _*_, _%_, _<_, _≤_}
 use native.Mathlib.Omega.{arith}
 use lib.Dec.{leb, ltb, eqb}
-use borrow.Author.Tests.{eqb-true, leb-true, ltb-true, not-false}
+use borrow.Author.Tests.{eqb-true, eqb-false, ne-eqb, leb-true, ltb-true, not-false}
 use Rattle.rules.specs.Each.{each}
-use Rattle.rules.specs.Netlist.{counts-right, counts-wrong, variable, gate, output, rhs0, rhs1, output-sound, gate-sound, table-sound}
+use Rattle.rules.specs.Netlist.{counts-right, counts-wrong, variable, gate, output, record-at, output-sound, gate-sound, cell-sound, record-sound, record-reads, EveryVariable, byte-of, table-sound}
 use Rattle.rules.specs.Values.{width}
-use Rattle.rules.proofs.Indices.{both, each-at}
+use Rattle.rules.proofs.Indices.{both, neither, each-at}
 use Rattle.rules.specs.declared.counts.Counts.{Counts}
+use Rattle.rules.specs.declared.records.Record.{Record}
+use Rattle.rules.specs.declared.records.Record.the-variants.{Gate, Cell}
 
 -- counts within their limits
 pub record RightCounts (c : Counts) : Type 0 where
@@ -54,27 +56,55 @@ right-counts c h =
       operands = omega arith;
     }
 
--- the literals of a gate are below it, the first at least the second
-pub record SoundGate (c : Counts) (table : List ℕ) (v : ℕ) : Type 0 where
-  pub first : rhs0 c table v < 2 * v
-  pub second : rhs1 c table v ≤ rhs0 c table v
-  pub first-variable : variable (rhs0 c table v) < v
-  pub second-variable : variable (rhs1 c table v) < v
+-- every variable that a record reads is below its gate, and its truth byte is one
+pub record SoundRecord (v : ℕ) (r : Record) : Type 0 where
+  pub low : EveryVariable (λ w. w < v) r
+  pub byte : byte-of r ≤ 255
 
--- outputs are literals up to 2M + 1, and gates have literals below them
+-- outputs are literals up to 2M + 1, and records read variables below their gate
 pub record SoundTable (c : Counts) (table : List ℕ) : Type 0 where
   pub outputs : (i : ℕ) → i < c .o → output table i ≤ 2 * c .m + 1
   pub output-variables : (i : ℕ) → i < c .o → variable (output table i) ≤ c .m
-  pub gates : (v : ℕ) → c .i < v → v ≤ c .i + c .a → SoundGate c table v
+  pub gates : (v : ℕ) → c .i < v → v ≤ c .i + c .a → SoundRecord v (record-at c table v)
 
--- a gate that passes the test is sound
-gate-facts : (c : Counts) (table : List ℕ) (v : ℕ) → gate-sound v (rhs0 c table v) (rhs1 c table v) ≡ true → SoundGate c table v
-unfolding gate-sound variable
-gate-facts c table v h =
-    let parts = both (ltb (rhs0 c table v) (2 * v)) (leb (rhs1 c table v) (rhs0 c table v)) h in
-    let first : rhs0 c table v < 2 * v = ltb-true (rhs0 c table v) (2 * v) (parts .0) in
-    let second : rhs1 c table v ≤ rhs0 c table v = leb-true (rhs1 c table v) (rhs0 c table v) (parts .1) in
-    record { first = first; second = second; first-variable = omega arith; second-variable = omega arith }
+-- a record that passes the test is sound
+pub sound-record : (v : ℕ) (r : Record) → record-sound v r ≡ true → SoundRecord v r
+unfolding record-sound gate-sound cell-sound variable byte-of
+sound-record v (Gate x y) h =
+    let parts = both (ltb x (2 * v)) (leb y x) h in
+    let first : x < 2 * v = ltb-true x (2 * v) (parts .0) in
+    let second : y ≤ x = leb-true y x (parts .1) in
+    record { low = (omega arith, omega arith); byte = omega arith }
+sound-record v (Cell byte x1 x2 x3) h =
+    let three = both (leb byte 255 && ltb x1 v && ltb x2 v) (ltb x3 v) h in
+    let two = both (leb byte 255 && ltb x1 v) (ltb x2 v) (three .0) in
+    let one = both (leb byte 255) (ltb x1 v) (two .0) in
+    record {
+      low = (ltb-true x1 v (one .1), ltb-true x2 v (two .1), ltb-true x3 v (three .1));
+      byte = leb-true byte 255 (one .0);
+    }
+
+-- what holds of every variable of a record, and brings something else along, brings that along for every one
+pub every-variable : (P Q : ℕ → Type 0) → ((w : ℕ) → P w → Q w) → (r : Record) → EveryVariable P r → EveryVariable Q r
+every-variable P Q brings (Gate x y) h = (brings _ (h .0), brings _ (h .1))
+every-variable P Q brings (Cell byte x1 x2 x3) h = (brings x1 (h .0), brings x2 (h .1), brings x3 (h .2))
+
+-- a record that does not read w reads others
+pub reads-others : (r : Record) (w : ℕ) → record-reads r w ≡ false → EveryVariable (λ u. u ≡ w → ⊥) r
+unfolding record-reads
+reads-others (Gate x y) w h =
+    let parts = neither (eqb (variable x) w) (eqb (variable y) w) h in
+    (eqb-false (variable x) w (parts .0), eqb-false (variable y) w (parts .1))
+reads-others (Cell byte x1 x2 x3) w h =
+    let two = neither (eqb x1 w || eqb x2 w) (eqb x3 w) h in
+    let one = neither (eqb x1 w) (eqb x2 w) (two .0) in
+    (eqb-false x1 w (one .0), eqb-false x2 w (one .1), eqb-false x3 w (two .1))
+
+-- a record of other variables does not read w
+pub others-read : (r : Record) (w : ℕ) → EveryVariable (λ u. u ≡ w → ⊥) r → record-reads r w ≡ false
+unfolding record-reads
+others-read (Gate x y) w h = rw (ne-eqb (variable x) w (h .0), ne-eqb (variable y) w (h .1))
+others-read (Cell byte x1 x2 x3) w h = rw (ne-eqb x1 w (h .0), ne-eqb x2 w (h .1), ne-eqb x3 w (h .2))
 
 -- a table that passes the test is sound
 pub sound-table : (c : Counts) (table : List ℕ) → table-sound c table ≡ true → SoundTable c table
@@ -82,7 +112,7 @@ unfolding table-sound output-sound variable gate
 sound-table c table h =
     let parts =
     both (each (c .o) (λ i. output-sound c (output table i)))
-    (each (c .a) (λ k. gate-sound (gate c k) (rhs0 c table (gate c k)) (rhs1 c table (gate c k)))) h
+    (each (c .a) (λ k. record-sound (gate c k) (record-at c table (gate c k)))) h
     in
     let outputs : (i : ℕ) → i < c .o → output table i ≤ 2 * c .m + 1 = λ i l. leb-true (output table i) (2 * c .m + 1) (each-at (c .o) _ (parts .0) i l) in
     record {
@@ -90,7 +120,7 @@ sound-table c table h =
       output-variables = λ i l. omega (arith, outputs i l);
       gates = λ v k l.
           let own : c .i + 1 + (v - (c .i + 1)) ≡ v = omega arith in
-          gate-facts c table v (rw own at (each-at (c .a) _ (parts .1) (v - (c .i + 1)) (omega arith)));
+          sound-record v (record-at c table v) (rw own at (each-at (c .a) _ (parts .1) (v - (c .i + 1)) (omega arith)));
     }
 
 -- counts that are not wrong are within their limits

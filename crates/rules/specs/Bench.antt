@@ -11,12 +11,13 @@ use lib.ListN.{length, take, replicate}
 use Rattle.rules.specs.Each.{each, sum, joined, listed, every}
 use Rattle.rules.specs.Says.{Says, refuses, answers, first, refuse-or}
 use Rattle.rules.specs.Limits.{terms-wrong, steps-wrong}
-use Rattle.rules.specs.Netlist.{counts-right, needed, variable, inverted, gate, output, rhs0, rhs1, output-sound, gate-sound, table-sound, counts-wrong, table-short, table-unsound}
-use Rattle.rules.specs.Values.{width, bit, turned, literal-value, input-values, gate-value, values-to, values, shown}
+use Rattle.rules.specs.Netlist.{counts-right, record-words, needed, variable, inverted, gate, output, rhs0, rhs1, cell-word, record-of, record-at, output-sound, gate-sound, cell-sound, record-sound, table-sound, counts-wrong, table-short, table-unsound}
+use Rattle.rules.specs.Values.{width, bit, turned, literal-value, input-values, record-value, gate-value, values-to, values, shown}
 use Rattle.rules.specs.Product.{kind-of, kind-unknown, outputs-of, operand, negative, size, modulo, product}
-use Rattle.rules.specs.Polynomial.{keep, place, insert, gather, with-variable, times-variable, times-literal}
-use Rattle.rules.specs.Steps.{modulus, below-zero, product-term, start-terms, start, where-held, replaced, all-replaced, step, trail, run}
-use Rattle.rules.specs.Judging.{Inputs, set-width, term-width, kind-wrong, is-gate, order-wrong, lent-short, judge-checks, roomy, held, completed, inputs-only, sooner, soonest, pair-a, pair-b, differs, ended, verdict, term-words, polynomial-words, padded, records, over, kept-or, checks, refusal, polynomials, judging, store-after, scratch-after, log-after}
+use Rattle.rules.specs.Polynomial.{keep, place, insert, gather, with-variable, times-variable, times-chosen, times-literal}
+use Rattle.rules.specs.Cells.{lies-in, evenly, evens, odds, coefficient, above, below, scaled}
+use Rattle.rules.specs.Steps.{modulus, below-zero, product-term, start-terms, start, where-held, times-subset, times-whole, times-record, replaced, all-replaced, step, trail, run}
+use Rattle.rules.specs.Judging.{Inputs, set-width, term-width, kind-wrong, is-gate, order-wrong, most-made, scratch-needed, lent-short, judge-checks, roomy, held, completed, inputs-only, sooner, soonest, pair-a, pair-b, differs, ended, verdict, term-words, polynomial-words, padded, records, over, kept-or, checks, refusal, polynomials, judging, store-after, scratch-after, log-after}
 use Rattle.rules.specs.Text.{digits, decimal}
 use Rattle.rules.specs.Reading.{Netlist, netlist, refused, digit, leading-digits, value-from, well-written, behind, with-numbers, and-then, field, fields, word, header-line, tested, input-line, output-line, gate-line, lines, end-read, gates-read, outputs-read, inputs-read, counts-read, counts-of, header-read, reading}
 use Rattle.rules.specs.declared.answers.StepRecord.{StepRecord}
@@ -76,7 +77,7 @@ handed row c words =
       limit = row .limit;
       order = row .order;
       store = replicate (suc (row .limit * (c .m / 64 + 2))) lent;
-      scratch = replicate (suc (4 * row .limit * (c .m / 64 + 2))) lent;
+      scratch = replicate (suc (most-made (c .records) * row .limit * (c .m / 64 + 2))) lent;
       log = replicate (suc (length (row .order))) (record { gate = lent; terms = lent });
     }
 
@@ -116,6 +117,8 @@ unfolding same same-records same-says handed filled words-right judged-right rea
     set-width term-width kind-wrong is-gate order-wrong lent-short judge-checks roomy held completed inputs-only sooner
     soonest pair-a pair-b differs ended verdict term-words polynomial-words padded records over kept-or checks refusal polynomials judging
     store-after scratch-after log-after
+    record-words cell-word record-of record-at cell-sound record-sound record-value lies-in evenly evens odds coefficient above below scaled
+    times-chosen times-subset times-whole times-record most-made scratch-needed
     digit leading-digits value-from well-written behind with-numbers and-then field fields word header-line tested input-line
     output-line gate-line lines end-read gates-read outputs-read inputs-read counts-read counts-of header-read reading
 right row = read-right row (reading 2106 (row .text))

@@ -6,13 +6,15 @@ use Prim.Native.Nat.{ℕ, _+_, _*_}
 use lib.ListN.{length, drop, replicate}
 use Rattle.rules.specs.Each.{every, listed}
 use Rattle.rules.specs.Says.{Says, refuses, answers}
-use Rattle.rules.specs.Netlist.{reads}
+use Rattle.rules.specs.Netlist.{record-reads, reads}
 use Rattle.rules.specs.Product.{plain}
 use Rattle.rules.specs.Steps.{times-named, honest}
-use Rattle.rules.specs.Judging.{verdict}
+use Rattle.rules.specs.Judging.{lent-short, verdict}
 use Rattle.rules.specs.Text.{digits, decimal, fields-text, header-text, input-text, output-text, gate-text, text-of}
 use Rattle.rules.specs.Reading.{Netlist, netlist, refused, reading}
-use Rattle.rules.specs.Bench.{Row, bytes, same-says, sheet, and-block, two-bit-gates, two-bits, ten-down, right}
+use Rattle.rules.specs.declared.counts.Counts.{Counts}
+use Rattle.rules.specs.declared.records.RecordKind.the-variants.{Gates, Cells}
+use Rattle.rules.specs.Bench.{Row, bytes, same-says, handed, judged-right, sheet, and-block, two-bit-gates, two-bits, ten-down, right}
 
 -- P1's block, kind, limit and order, with what is said; an answer leaves an empty store and 0 terms after each step
 unfoldable pub edge : ℕ → ℕ → List ℕ → Says → Row
@@ -37,7 +39,7 @@ unfit text k = sheet text 0 [] 0 (refuses k) [] []
 unfoldable pub twelve-bits : List ℕ
 twelve-bits =
     text-of
-    (record { m = 48; i = 24; l = 0; o = 24; a = 24 })
+    (record { m = 48; i = 24; l = 0; o = 24; a = 24; records = Gates })
     (listed 24 (λ i. 51 + 2 * i) ++ replicate 48 2)
 
 -- such a block with an empty order
@@ -73,7 +75,7 @@ edges =
     ∷ unfit (bytes "aag 1024 2 0 2 1022\n") 2
     ∷ unfit (bytes "aag 1 0 0 1 1\n") 2
     ∷ unfit (bytes "aag 66 66 0 2 0\n") 2
-    ∷ unfit (text-of (record { m = 64; i = 64; l = 0; o = 1; a = 0 }) (0 ∷ [])) 9
+    ∷ unfit (text-of (record { m = 64; i = 64; l = 0; o = 1; a = 0; records = Gates }) (0 ∷ [])) 9
     ∷ twelve 128 (answers 2 (0 ∷ 0 ∷ []))
     ∷ []
 
@@ -115,6 +117,39 @@ turns =
     (5 ∷ 5 ∷ 5 ∷ 8 ∷ 10 ∷ 6 ∷ 6 ∷ 4 ∷ 2 ∷ 0 ∷ [])
     ∷ sheet two-bits 0 winding 8 (answers 0 (10 ∷ 0 ∷ [])) [] (11 ∷ 12 ∷ 15 ∷ 10 ∷ 13 ∷ 8 ∷ 6 ∷ 4 ∷ 2 ∷ 0 ∷ [])
     ∷ []
+
+-- the counts of a block of two inputs, two outputs and so many lookup cells
+unfoldable pub cell-counts : ℕ → Counts
+cell-counts a = record { m = 2 + a; i = 2; l = 0; o = 2; a = a; records = Cells }
+
+-- a plain block of so many lookup cells, by its table, is judged as the row says
+unfoldable pub cells-as : ℕ → List ℕ → Row → Bool
+cells-as a table row = judged-right row (handed row (cell-counts a) table)
+
+-- lookup cells: AND, by a byte that has x3 (constant false) free and by one that has not; x1 and not x2, wrong at a = 1; all three variables,
+-- where 4·x1·x2·x3 vanishes modulo 4; one variable twice; a byte above 255, a variable that is not below its cell's own, and a table
+-- of O + 4A - 1 words
+unfoldable pub cell-cases : Bool
+unfolding right
+cell-cases =
+    cells-as 1 (6 ∷ 0 ∷ 136 ∷ 1 ∷ 2 ∷ 0 ∷ []) (sheet [] 0 (3 ∷ []) 2 (answers 0 (1 ∷ 0 ∷ [])) [] (0 ∷ []))
+    && cells-as 1 (6 ∷ 0 ∷ 8 ∷ 2 ∷ 1 ∷ 0 ∷ []) (sheet [] 0 (3 ∷ []) 2 (answers 0 (1 ∷ 0 ∷ [])) [] (0 ∷ []))
+    && cells-as 1 (6 ∷ 0 ∷ 34 ∷ 1 ∷ 2 ∷ 0 ∷ []) (sheet [] 0 (3 ∷ []) 2 (answers 1 (1 ∷ 2 ∷ 1 ∷ 0 ∷ 1 ∷ 0 ∷ [])) (2 ∷ 6 ∷ 1 ∷ 2 ∷ []) (2 ∷ []))
+    && cells-as 2 (8 ∷ 0 ∷ 136 ∷ 1 ∷ 2 ∷ 0 ∷ 150 ∷ 1 ∷ 2 ∷ 3 ∷ []) (sheet [] 0 (4 ∷ 3 ∷ []) 2 (answers 1 (2 ∷ 3 ∷ 1 ∷ 0 ∷ 1 ∷ 0 ∷ [])) (2 ∷ 6 ∷ 1 ∷ 4 ∷ 1 ∷ 2 ∷ []) (6 ∷ 3 ∷ []))
+    && cells-as 1 (6 ∷ 0 ∷ 150 ∷ 1 ∷ 2 ∷ 1 ∷ []) (sheet [] 0 (3 ∷ []) 2 (answers 1 (1 ∷ 2 ∷ 0 ∷ 1 ∷ 1 ∷ 0 ∷ [])) (3 ∷ 6 ∷ 1 ∷ 4 ∷ []) (2 ∷ []))
+    && cells-as 1 (6 ∷ 0 ∷ 255 ∷ 2 ∷ 2 ∷ 2 ∷ []) (sheet [] 0 (3 ∷ []) 2 (answers 1 (1 ∷ 2 ∷ 0 ∷ 0 ∷ 1 ∷ 0 ∷ [])) (3 ∷ 6 ∷ 1 ∷ 0 ∷ []) (2 ∷ []))
+    && cells-as 1 (6 ∷ 0 ∷ 256 ∷ 1 ∷ 2 ∷ 0 ∷ []) (sheet [] 0 (3 ∷ []) 2 (refuses 8) [] [])
+    && cells-as 1 (6 ∷ 0 ∷ 136 ∷ 1 ∷ 2 ∷ 3 ∷ []) (sheet [] 0 (3 ∷ []) 2 (refuses 8) [] [])
+    && cells-as 1 (6 ∷ 0 ∷ 136 ∷ 1 ∷ 2 ∷ []) (sheet [] 0 (3 ∷ []) 2 (refuses 3) [] [])
+
+-- scratch at T = 128 for sets of one word: 8T(W + 1) words for lookup cells, and 4T(W + 1) for AND gates, and not one less
+unfoldable pub scratch-edges : Bool
+unfolding right
+scratch-edges =
+    not (lent-short (cell-counts 1) 128 0 256 2048 0)
+    && lent-short (cell-counts 1) 128 0 256 2047 0
+    && not (lent-short (record { m = 3; i = 2; l = 0; o = 2; a = 1; records = Gates }) 128 0 256 1024 0)
+    && lent-short (record { m = 3; i = 2; l = 0; o = 2; a = 1; records = Gates }) 128 0 256 1023 0
 
 -- what is said of a plain block below the check of T
 unfoldable pub said-at : ℕ → List ℕ → Netlist → Says
@@ -158,8 +193,13 @@ unfolding right bytes sheet and-block two-bit-gates two-bits ten-down digits dec
     edge unfit twelve-bits twelve edges damaged winding turns
 turns-right = refl
 
+-- each case of lookup cells is right, and the least scratch of both kinds of record
+cells-right : (cell-cases && scratch-edges) ≡ true
+unfolding cell-counts cells-as cell-cases scratch-edges sheet right
+cells-right = refl
+
 -- each look is right
 looks-right : looks ≡ true
 unfolding looks said-at honest-in bytes and-block two-bit-gates two-bits ten-down digits decimal fields-text header-text input-text output-text gate-text text-of
-    twelve-bits winding reads times-named honest
+    twelve-bits winding record-reads reads times-named honest
 looks-right = refl

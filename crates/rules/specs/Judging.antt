@@ -17,6 +17,8 @@ use Rattle.rules.specs.Says.{Says, answers, first, refuse-or, says}
 use Rattle.rules.specs.declared.answers.Answer.{Answer}
 use Rattle.rules.specs.declared.answers.StepRecord.{StepRecord}
 use Rattle.rules.specs.declared.counts.Counts.{Counts}
+use Rattle.rules.specs.declared.records.RecordKind.{RecordKind}
+use Rattle.rules.specs.declared.records.RecordKind.the-variants.{Gates, Cells}
 
 -- W, the words of a set
 unfoldable pub set-width : Counts → ℕ
@@ -38,10 +40,19 @@ is-gate c v = ltb (c .i) v && leb v (c .m)
 unfoldable pub order-wrong : Counts → List ℕ → Bool
 order-wrong c order = steps-wrong (length order) || not (every (is-gate c) order)
 
+-- the most terms that a step makes of one
+unfoldable pub most-made : RecordKind → ℕ
+most-made Gates = 4
+most-made Cells = 8
+
+-- the words that scratch needs: room for the most terms that a step makes
+unfoldable pub scratch-needed : Counts → ℕ → ℕ
+scratch-needed c limit = most-made (c .records) * limit * term-width c
+
 -- store, scratch or log too short (12), from their lengths
 unfoldable pub lent-short : Counts → ℕ → ℕ → ℕ → ℕ → ℕ → Bool
 lent-short c limit steps store scratch log =
-    ltb store (limit * term-width c) || ltb scratch (4 * limit * term-width c) || ltb log steps
+    ltb store (limit * term-width c) || ltb scratch (scratch-needed c limit) || ltb log steps
 
 -- the checks of judging in their order; of the lent buffers they ask only how long they are
 unfoldable pub judge-checks : Counts → List ℕ → ℕ → ℕ → List ℕ → ℕ → ℕ → ℕ → List (ℕ × Bool)

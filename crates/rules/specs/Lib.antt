@@ -1,4 +1,4 @@
--- The rules of document 01, as definitions that compute.
+-- The rules of documents 01 and 02, as definitions that compute.
 pub mod Each
 pub mod Says
 pub mod Limits
@@ -6,6 +6,7 @@ pub mod Netlist
 pub mod Values
 pub mod Product
 pub mod Polynomial
+pub mod Cells
 pub mod Steps
 pub mod Judging
 pub mod Text

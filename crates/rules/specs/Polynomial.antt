@@ -69,6 +69,13 @@ times-variable m zero (suc k) t = t ∷ []
 times-variable m (suc v) zero t = (t .0, with-variable (t .1) (suc v)) ∷ []
 times-variable m (suc v) (suc k) t = t ∷ (m - t .0, with-variable (t .1) (suc v)) ∷ []
 
+-- every term times variable v, where it is chosen; variable 0 is constant false
+unfoldable pub times-chosen : ℕ → ℕ → Polynomial → Polynomial
+times-chosen zero v p = p
+times-chosen (suc k) v [] = []
+times-chosen (suc k) zero (t ∷ p) = []
+times-chosen (suc k) (suc v) (t ∷ p) = (t .0, with-variable (t .1) (suc v)) ∷ times-chosen (suc k) (suc v) p
+
 -- every term times the literal x: 0, 1, x or 1 - x
 unfoldable pub times-literal : ℕ → ℕ → Polynomial → Polynomial
 times-literal m x [] = []

@@ -6,10 +6,11 @@ use Prim.Native.Nat.{ℕ, zero, suc, _+_, _-_, _*_}
 use lib.Dec.{leb, eqb}
 use lib.ListN.{length, getD, drop}
 use Rattle.rules.specs.Netlist.{gate, counts-wrong, table-short, output-sound, gate-sound}
-use Rattle.rules.specs.Says.{Says, refuses, answers, first, text-says}
+use Rattle.rules.specs.Says.{Says, refuses, answers, first, text-says, text-records}
 use Rattle.rules.specs.Text.{line-feed, space, header-word}
 use Rattle.rules.specs.declared.answers.Text.{Text}
 use Rattle.rules.specs.declared.counts.Counts.{Counts}
+use Rattle.rules.specs.declared.records.RecordKind.the-variants.{Gates}
 
 -- what stands at the head of a text: numbers and the text behind them, or nothing of the kind
 pub data Scan : Type 0 where
@@ -131,9 +132,9 @@ unfoldable pub counts-read : Counts → List ℕ → ℕ → Netlist
 counts-read c text zero = inputs-read c (lines (c .i) input-line text)
 counts-read c text (suc k) = refused (suc k)
 
--- the counts that five numbers are
+-- the counts that five numbers are; a text has AND gates
 unfoldable pub counts-of : List ℕ → Counts
-counts-of x = record { m = getD x 0 0; i = getD x 1 0; l = getD x 2 0; o = getD x 3 0; a = getD x 4 0 }
+counts-of x = record { m = getD x 0 0; i = getD x 1 0; l = getD x 2 0; o = getD x 3 0; a = getD x 4 0; records = Gates }
 
 -- the header line (1), and then what follows it; the table has that many words
 unfoldable pub header-read : ℕ → Scan → Netlist
@@ -156,7 +157,8 @@ unfoldable pub table-after : Netlist → List ℕ → List ℕ
 table-after (netlist c words) table = words ++ drop (length words) table
 table-after (refused k) table = table
 
--- the permitted outcome of reading: its answer and the table at exit
+-- the permitted outcome of reading: its answer, a table of AND gates, and its words at exit
 pub record ReadAs (text table : List ℕ) (r : Text) (table-exit : List ℕ) : Type 0 where
   pub said : text-says r ≡ reading-says (reading (length table) text)
+  pub records : text-records r ≡ Gates
   pub table-words : table-exit ≡ table-after (reading (length table) text) table

@@ -8,6 +8,8 @@ use Rattle.rules.specs.declared.answers.Text.{Text}
 use Rattle.rules.specs.declared.answers.Text.the-variants.{Read, Refused as RefusedText}
 use Rattle.rules.specs.declared.answers.Word.{Word}
 use Rattle.rules.specs.declared.answers.Word.the-variants.{Is, Refused as RefusedWord}
+use Rattle.rules.specs.declared.records.RecordKind.{RecordKind}
+use Rattle.rules.specs.declared.records.RecordKind.the-variants.{Gates}
 use Rattle.rules.specs.declared.limits.Made.{Made}
 use Rattle.rules.specs.declared.limits.Made.the-variants.{Within, Refused as RefusedMade}
 
@@ -28,6 +30,11 @@ says (RefusedAnswer number) = refuses number
 unfoldable pub text-says : Text → Says
 text-says (Read c) = answers 0 (c .m ∷ c .i ∷ c .l ∷ c .o ∷ c .a ∷ [])
 text-says (RefusedText number) = refuses number
+
+-- and the kind of record of the table made; none is made where it is refused
+unfoldable pub text-records : Text → RecordKind
+text-records (Read c) = c .records
+text-records (RefusedText number) = Gates
 
 -- a word shown or wanted
 unfoldable pub word-says : Word → Says

@@ -3,13 +3,17 @@ use mathlib.Core.Bool.{Bool, false, not, xor, cond, _||_, _&&_}
 use mathlib.Core.List.{List, [], _∷_, _++_}
 use Prim.Native.Nat.{ℕ, zero, suc, _+_, _-_, _%_, _^_}
 use lib.Dec.{ltb, eqb}
+use lib.IntN.{ℤ}
 use lib.ListN.{length, getD}
 use Rattle.rules.specs.Each.{each, joined}
-use Rattle.rules.specs.Netlist.{gate, output, rhs0, rhs1, reads}
+use Rattle.rules.specs.Netlist.{gate, output, record-at, reads}
 use Rattle.rules.specs.Values.{width, bit}
 use Rattle.rules.specs.Product.{Kind, plain, signed, truncated, outputs-of}
-use Rattle.rules.specs.Polynomial.{Term, Polynomial, gather, times-literal}
+use Rattle.rules.specs.Polynomial.{Term, Polynomial, gather, times-literal, times-chosen}
+use Rattle.rules.specs.Cells.{coefficient, above, below, scaled}
 use Rattle.rules.specs.declared.counts.Counts.{Counts}
+use Rattle.rules.specs.declared.records.Record.{Record}
+use Rattle.rules.specs.declared.records.Record.the-variants.{Gate, Cell}
 
 -- 2^l for the outputs of a block
 unfoldable pub modulus : Kind → Counts → ℕ
@@ -41,19 +45,32 @@ unfoldable pub where-held : ℕ → Polynomial → Polynomial → Polynomial
 where-held zero without held = without
 where-held (suc k) without held = held
 
--- a term, with v replaced by the product of the literals x and y where it holds v
-unfoldable pub replaced : ℕ → ℕ → ℕ → ℕ → Term → Polynomial
-replaced m v x y t =
-    where-held (bit (t .1) v) (t ∷ []) (times-literal m x (times-literal m y ((t .0, t .1 - 2 ^ v) ∷ [])))
+-- a term times the variables of the subset u of x1, x2, x3
+unfoldable pub times-subset : ℕ → ℕ → ℕ → ℕ → Term → Polynomial
+times-subset u x1 x2 x3 t = times-chosen (bit u 0) x1 (times-chosen (bit u 1) x2 (times-chosen (bit u 2) x3 (t ∷ [])))
+
+-- a term times a whole number, and times those variables; nothing where the number is 0
+unfoldable pub times-whole : ℕ → ℤ → ℕ → ℕ → ℕ → ℕ → Term → Polynomial
+times-whole m z u x1 x2 x3 t = cond (eqb (above z + below z) 0) [] (times-subset u x1 x2 x3 (scaled m z (t .0), t .1))
+
+-- a term times what a record stands for: the product of its two literals, or for each of its eight coefficients that is not 0, and whose
+-- subset has no constant false, a term
+unfoldable pub times-record : ℕ → Record → Term → Polynomial
+times-record m (Gate x y) t = times-literal m x (times-literal m y (t ∷ []))
+times-record m (Cell byte x1 x2 x3) t = joined 8 (λ u. times-whole m (coefficient byte u) u x1 x2 x3 t)
+
+-- a term, with v replaced by its record where it holds v
+unfoldable pub replaced : ℕ → ℕ → Record → Term → Polynomial
+replaced m v r t = where-held (bit (t .1) v) (t ∷ []) (times-record m r (t .0, t .1 - 2 ^ v))
 
 -- every term so replaced; not yet gathered
-unfoldable pub all-replaced : ℕ → ℕ → ℕ → ℕ → Polynomial → Polynomial
-all-replaced m v x y [] = []
-all-replaced m v x y (t ∷ p) = replaced m v x y t ++ all-replaced m v x y p
+unfoldable pub all-replaced : ℕ → ℕ → Record → Polynomial → Polynomial
+all-replaced m v r [] = []
+all-replaced m v r (t ∷ p) = replaced m v r t ++ all-replaced m v r p
 
 -- a step of gate v
 unfoldable pub step : ℕ → Counts → List ℕ → ℕ → Polynomial → Polynomial
-step m c table v p = gather m (all-replaced m v (rhs0 c table v) (rhs1 c table v) p)
+step m c table v p = gather m (all-replaced m v (record-at c table v) p)
 
 -- p, and the polynomials after 1, 2, .. steps of the order from it, with no limit
 unfoldable pub trail : ℕ → Counts → List ℕ → Polynomial → List ℕ → List Polynomial

@@ -2,13 +2,15 @@
 use mathlib.Core.Path.{_≡_}
 use mathlib.Core.Bool.{Bool}
 use mathlib.Core.List.{List, [], _∷_, _++_}
-use Prim.Native.Nat.{ℕ, zero, suc, _-_, _*_, _/_, _%_, _^_}
+use Prim.Native.Nat.{ℕ, zero, suc, _+_, _-_, _*_, _/_, _%_, _^_}
 use lib.ListN.{length, getD}
 use Rattle.rules.specs.Each.{sum, listed}
-use Rattle.rules.specs.Netlist.{variable, inverted, gate, output, rhs0, rhs1, counts-wrong, table-short, table-unsound}
+use Rattle.rules.specs.Netlist.{variable, inverted, gate, output, record-at, counts-wrong, table-short, table-unsound}
 use Rattle.rules.specs.Says.{Says, answers, first, refuse-or, word-says}
 use Rattle.rules.specs.declared.answers.Word.{Word}
 use Rattle.rules.specs.declared.counts.Counts.{Counts}
+use Rattle.rules.specs.declared.records.Record.{Record}
+use Rattle.rules.specs.declared.records.Record.the-variants.{Gate, Cell}
 
 -- n, the bits of an operand
 unfoldable pub width : Counts → ℕ
@@ -31,9 +33,14 @@ literal-value values x = turned (inverted x) (getD values (variable x) 0)
 unfoldable pub input-values : ℕ → ℕ → ℕ → List ℕ
 input-values n a b = (0 ∷ []) ++ listed n (bit a) ++ listed n (bit b)
 
--- the AND of gate v's two literals
+-- the value of a record: the AND of its two literals, or bit x1 + 2·x2 + 4·x3 of its truth byte
+unfoldable pub record-value : List ℕ → Record → ℕ
+record-value values (Gate x y) = literal-value values x * literal-value values y
+record-value values (Cell byte x1 x2 x3) = bit byte (getD values x1 0 + 2 * getD values x2 0 + 4 * getD values x3 0)
+
+-- the value of gate v
 unfoldable pub gate-value : Counts → List ℕ → List ℕ → ℕ → ℕ
-gate-value c table values v = literal-value values (rhs0 c table v) * literal-value values (rhs1 c table v)
+gate-value c table values v = record-value values (record-at c table v)
 
 -- the values of the inputs and of the first gates
 unfoldable pub values-to : Counts → List ℕ → ℕ → ℕ → ℕ → List ℕ

@@ -2,9 +2,10 @@
  * A plain judge with a hash table of terms: the baseline that the proved
  * judge is timed against. Nothing of it is proved.
  *
- * It takes sound tables and orders that name gates only, and gives the
- * answer's letter, its step and the terms held. It leaves no sorted
- * polynomial and no log, as the proved judge has to.
+ * It takes sound tables of AND gates or of lookup cells, and orders that
+ * name gates or cells only, and gives the answer's letter, its step and the
+ * terms held. It leaves no sorted polynomial and no log, as the proved judge
+ * has to.
  */
 #include <stddef.h>
 #include <stdint.h>
@@ -12,6 +13,9 @@
 
 #define SET_WORDS_MOST 16
 #define SLOTS_LEAST 256
+#define GATE_WORDS 2
+#define CELL_WORDS 4
+#define SUBSETS 8
 #define BIT(v) (UINT64_C(1) << (v) % 64)
 
 struct polynomial {
@@ -116,9 +120,66 @@ static void start(struct polynomial *p, uint32_t n, uint32_t o, const uint32_t *
     }
 }
 
-/* Replaces v. A gate reads only below itself, so no term put in holds v and the pass may end before them. */
-static void step(struct polynomial *p, uint32_t v, const uint32_t *gate)
+/* What a cell makes of a term: coefficients that are not 0, and the sets to join with. */
+struct parts {
+    size_t count;
+    uint64_t coefficients[SUBSETS];
+    uint32_t variables[SUBSETS][3]; /* 0 where the subset does not have it */
+};
+
+/*
+ * The parts of a cell: byte, x1, x2, x3. A function of x is its value at 0
+ * plus x times the difference of its two values; taken for each variable in
+ * turn, this turns the byte's bits into coefficients.
+ */
+static void take_parts(struct parts *parts, const uint32_t *cell)
 {
+    uint64_t numbers[SUBSETS];
+    for (uint32_t k = 0; k < SUBSETS; k++)
+        numbers[k] = cell[0] >> k & 1;
+    for (uint32_t bit = 1; bit < SUBSETS; bit *= 2) {
+        for (uint32_t k = 0; k < SUBSETS; k++)
+            numbers[k] -= k & bit ? numbers[k ^ bit] : 0;
+    }
+    parts->count = 0;
+    for (uint32_t k = 0; k < SUBSETS; k++) {
+        /* A subset with the constant false makes nothing. */
+        int is_false = (k & 1 && !cell[1]) || (k & 2 && !cell[2]) || (k & 4 && !cell[3]);
+        if (!numbers[k] || is_false)
+            continue;
+        for (uint32_t x = 0; x < 3; x++)
+            parts->variables[parts->count][x] = k >> x & 1 ? cell[1 + x] : 0;
+        parts->coefficients[parts->count++] = numbers[k];
+    }
+}
+
+/* Adds a term times a cell. */
+static void add_parts(struct polynomial *p, const uint64_t *set, uint64_t coefficient, const struct parts *parts)
+{
+    for (size_t k = 0; k < parts->count; k++) {
+        uint64_t made = coefficient * parts->coefficients[k], product[SET_WORDS_MOST];
+        /* What vanishes modulo 2^l needs no place. */
+        if (!(made & p->coefficient_bits))
+            continue;
+        memcpy(product, set, (p->width - 1) * 8);
+        for (uint32_t x = 0; x < 3; x++) {
+            uint32_t v = parts->variables[k][x];
+            if (v)
+                product[v / 64] |= BIT(v);
+        }
+        add(p, product, made);
+    }
+}
+
+/*
+ * Replaces v by its gate or cell. That reads only below itself, so no term
+ * put in holds v and the pass may end before them.
+ */
+static void step(struct polynomial *p, uint32_t v, const uint32_t *record, uint32_t cells)
+{
+    struct parts parts;
+    if (cells)
+        take_parts(&parts, record);
     /* Terms of coefficient 0 are passed over in vain. */
     if (p->used > p->held + p->held / 4 + 32)
         drop_zeros(p);
@@ -131,7 +192,10 @@ static void step(struct polynomial *p, uint32_t v, const uint32_t *gate)
         rest[v / 64] ^= BIT(v);
         taken[0] = 0;
         p->held--;
-        add_times(p, rest, coefficient, gate, 2);
+        if (cells)
+            add_parts(p, rest, coefficient, &parts);
+        else
+            add_times(p, rest, coefficient, record, 2);
     }
 }
 
@@ -147,28 +211,30 @@ static char last_answer(const struct polynomial *p, uint32_t m, uint32_t i)
     return p->held ? 'D' : 'E';
 }
 
-/* The most terms with a place: a step can make four of each. The start has at most 1,089. */
-static size_t places(uint64_t limit)
+/* The most terms with a place: a step can make four of each, or eight with cells. The start has at most 1,089. */
+static size_t places(uint64_t limit, uint32_t cells)
 {
-    return 6 * limit + 512;
+    return (cells ? 10 : 6) * limit + 512;
 }
 
 /* What a judgement has to be lent: words for terms, and slots. */
-size_t hash_judge_term_words(uint32_t m, uint64_t limit)
+size_t hash_judge_term_words(uint32_t m, uint64_t limit, uint32_t cells)
 {
-    return places(limit) * (m / 64 + 2);
+    return places(limit, cells) * (m / 64 + 2);
 }
 
-size_t hash_judge_slots(uint64_t limit)
+size_t hash_judge_slots(uint64_t limit, uint32_t cells)
 {
-    return 8 * places(limit);
+    return 8 * places(limit, cells);
 }
 
-/* Gives the letter E, D, R or U, and in shown the step and the terms held. */
-char hash_judge(uint32_t m, uint32_t i, uint32_t o, const uint32_t *table, uint32_t kind, uint64_t limit,
-                const uint32_t *order, size_t order_length, uint64_t *terms, uint32_t *slots, uint64_t *shown)
+/* Gives the letter E, D, R or U, and in shown the step and the terms held. A table of cells is told by cells not 0. */
+char hash_judge(uint32_t m, uint32_t i, uint32_t o, const uint32_t *table, uint32_t cells, uint32_t kind,
+                uint64_t limit, const uint32_t *order, size_t order_length, uint64_t *terms, uint32_t *slots,
+                uint64_t *shown)
 {
     struct polynomial p = {terms, slots, m / 64 + 2, 0, 0, 0, BIT(o - 1) * 2 - 1};
+    size_t record_words = cells ? CELL_WORDS : GATE_WORDS;
     start(&p, i / 2, o, table, kind);
     shown[0] = shown[1] = 0;
     if (p.held > limit)
@@ -176,7 +242,7 @@ char hash_judge(uint32_t m, uint32_t i, uint32_t o, const uint32_t *table, uint3
     for (size_t k = 0; k < order_length; k++) {
         shown[0] = k + 1;
         shown[1] = p.held;
-        step(&p, order[k], table + o + 2 * (order[k] - i - 1));
+        step(&p, order[k], table + o + record_words * (order[k] - i - 1), cells);
         if (p.held > limit)
             return 'R';
     }

@@ -3,7 +3,7 @@
 use crate::judges::{by_hash, by_library, by_second, Lent, LentToHash, Question, Verdict};
 use crate::timing::{met, Least};
 use second::blocks::{self, Block};
-use second::orders;
+use second::{orders, Records};
 
 /// The least time of each judge.
 struct Times {
@@ -12,16 +12,25 @@ struct Times {
     hash: Least,
 }
 
-/// Judges every block under its own reading and prints a row for each; says whether the three agree everywhere.
+/// Judges every block under its own reading, first those of gates and then those of cells, and prints a row for each;
+/// says whether the three agree everywhere.
 pub fn run(limit: u64, repeats: u32) -> bool {
     println!("order M down to I + 1, T = {limit}, least of {repeats}, milliseconds");
+    let gates_agree = run_table("blocks of gates", blocks::of_gates(), limit, repeats);
+    let cells_agree = run_table("blocks of cells", blocks::of_cells(), limit, repeats);
+    gates_agree && cells_agree
+}
+
+/// A table with its sums and targets.
+fn run_table(title: &str, blocks: Vec<Block>, limit: u64, repeats: u32) -> bool {
+    println!();
     println!(
         "{:<20} {:>10} {:>10} {:>10} {:>14} {:>9} {:>9}",
-        "block", "library", "second", "hash in C", "answer", "lib/sec", "lib/hash"
+        title, "library", "second", "hash in C", "answer", "lib/sec", "lib/hash"
     );
     let (mut library, mut second, mut hash) = (0.0, 0.0, 0.0);
     let mut all_agree = true;
-    for block in blocks::all() {
+    for block in blocks {
         let Some((verdict, times)) = judged(&block, limit, repeats) else {
             all_agree = false;
             continue;
@@ -40,10 +49,14 @@ pub fn run(limit: u64, repeats: u32) -> bool {
     all_agree
 }
 
-/// Judges every block with the library alone, T = 1,024; says whether each judgement gave the same verdict every time.
-pub fn run_alone(repeats: u32) -> bool {
+/// Judges every block of one kind with the library alone, T = 1,024; says whether each judgement gave the same verdict every time.
+pub fn run_alone(records: Records, repeats: u32) -> bool {
+    let blocks = match records {
+        Records::Gates => blocks::of_gates(),
+        Records::Cells => blocks::of_cells(),
+    };
     let mut all_agree = true;
-    for block in blocks::all() {
+    for block in blocks {
         let order = orders::falling(block.made.counts);
         let question = asked(&block, 1_024, &order);
         let mut lent = Lent::to(&question);
@@ -56,13 +69,7 @@ pub fn run_alone(repeats: u32) -> bool {
 }
 
 fn asked<'a>(block: &'a Block, limit: u64, order: &'a [u32]) -> Question<'a> {
-    Question {
-        counts: block.made.counts,
-        table: &block.made.table,
-        kind: block.reading.kind(),
-        limit,
-        order,
-    }
+    Question::of(&block.made, block.reading.kind(), limit, order)
 }
 
 /// One block by all three judges in turn, so that a busy moment of the machine meets them all; none when they disagree.

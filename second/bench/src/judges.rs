@@ -1,16 +1,37 @@
 //! Three judges of one question: the proved library, the second program, and the plain C judge.
 
 use compare::library;
-use second::{Answer, Counts, Step};
+use compare::mirror::number_of;
+use second::netlists::Made;
+use second::{Answer, Counts, Records, Step};
 
 /// What every judge is asked.
 #[derive(Clone, Copy)]
 pub struct Question<'a> {
     pub counts: Counts,
     pub table: &'a [u32],
+    pub records: Records,
     pub kind: u32,
     pub limit: u64,
     pub order: &'a [u32],
+}
+
+impl<'a> Question<'a> {
+    pub fn of(made: &'a Made, kind: u32, limit: u64, order: &'a [u32]) -> Question<'a> {
+        Question {
+            counts: made.counts,
+            table: &made.table,
+            records: made.records,
+            kind,
+            limit,
+            order,
+        }
+    }
+
+    /// The number that tells C whether the records are cells.
+    fn cells(&self) -> u32 {
+        number_of(self.records, 0)
+    }
 }
 
 /// What every judge answers. A refusal has the letter X and its number as the step.
@@ -45,7 +66,7 @@ impl Lent {
         let words = question.limit as usize * question.counts.term_words();
         Lent {
             store: vec![0; words],
-            scratch: vec![0; 4 * words],
+            scratch: vec![0; question.records.most_made() * words],
             log: vec![Step::default(); question.order.len()],
         }
     }
@@ -62,8 +83,8 @@ impl LentToHash {
         // SAFETY: both only compute with numbers.
         let (words, slots) = unsafe {
             (
-                hash_judge_term_words(question.counts.m, question.limit),
-                hash_judge_slots(question.limit),
+                hash_judge_term_words(question.counts.m, question.limit, question.cells()),
+                hash_judge_slots(question.limit, question.cells()),
             )
         };
         LentToHash {
@@ -74,15 +95,16 @@ impl LentToHash {
 }
 
 extern "C" {
-    fn hash_judge_term_words(m: u32, limit: u64) -> usize;
+    fn hash_judge_term_words(m: u32, limit: u64, cells: u32) -> usize;
 
-    fn hash_judge_slots(limit: u64) -> usize;
+    fn hash_judge_slots(limit: u64, cells: u32) -> usize;
 
     fn hash_judge(
         m: u32,
         i: u32,
         o: u32,
         table: *const u32,
+        cells: u32,
         kind: u32,
         limit: u64,
         order: *const u32,
@@ -98,6 +120,7 @@ pub fn by_library(question: &Question, lent: &mut Lent) -> Verdict {
     let asked = compare::Question {
         counts: question.counts,
         table: question.table,
+        cells: question.cells(),
         kind: question.kind,
         limit: question.limit,
         order: question.order,
@@ -122,6 +145,7 @@ pub fn by_second(question: &Question, lent: &mut Lent) -> Verdict {
     let answer = second::judge(
         question.counts,
         question.table,
+        question.records,
         question.kind,
         question.limit,
         question.order,
@@ -153,6 +177,7 @@ pub fn by_hash(question: &Question, lent: &mut LentToHash) -> Verdict {
             question.counts.i,
             question.counts.o,
             question.table.as_ptr(),
+            question.cells(),
             question.kind,
             question.limit,
             question.order.as_ptr(),

@@ -1,6 +1,8 @@
 //! Reading and evaluating by the proved library, with results like those of the second program.
 
 use compare::library;
+use compare::mirror::number_of;
+use second::netlists::Made;
 use second::Counts;
 
 /// A library's number, when it did not do what was asked.
@@ -15,9 +17,10 @@ pub fn read(text: &[u8], table: &mut [u32]) -> Result<Counts, Refusal> {
 }
 
 /// The word the outputs show at one operand pair.
-pub fn evaluate(counts: Counts, table: &[u32], x: u64, y: u64) -> Result<u64, Refusal> {
+pub fn evaluate(made: &Made, x: u64, y: u64) -> Result<u64, Refusal> {
     let mut word = [0];
-    let number = library::evaluate(counts, table, x, y, &mut word);
+    let cells = number_of(made.records, 0);
+    let number = library::evaluate(made.counts, &made.table, cells, x, y, &mut word);
     done(number, word[0])
 }
 

@@ -10,11 +10,13 @@ mod steps;
 mod tests;
 mod timing;
 
+use second::Records;
 use std::process::ExitCode;
 
 const USAGE: &str = "usage:
   bench blocks [T] [REPEATS]  judge the real blocks: the library, the second program, a hash table in C
-  bench alone [REPEATS]       judge the real blocks with the library alone, for a profiler
+  bench alone [REPEATS]       judge the real blocks of gates with the library alone, for a profiler
+  bench cells [REPEATS]       the same with the blocks of cells
   bench pairs                 judge the real blocks, and try all their operand pairs
   bench steps                 the time of one step for 1,024 to 16,384 terms
   bench read                  read a text and evaluate a pair: the library, the second program";
@@ -38,8 +40,10 @@ fn outcome(words: &[&str]) -> Option<bool> {
         ["blocks"] => Some(blocks::run(1_024, 20)),
         ["blocks", limit] => Some(blocks::run(term_limit(limit)?, 20)),
         ["blocks", limit, repeats] => Some(blocks::run(term_limit(limit)?, count(repeats)?)),
-        ["alone"] => Some(blocks::run_alone(100)),
-        ["alone", repeats] => Some(blocks::run_alone(count(repeats)?)),
+        ["alone"] => Some(blocks::run_alone(Records::Gates, 100)),
+        ["alone", repeats] => Some(blocks::run_alone(Records::Gates, count(repeats)?)),
+        ["cells"] => Some(blocks::run_alone(Records::Cells, 100)),
+        ["cells", repeats] => Some(blocks::run_alone(Records::Cells, count(repeats)?)),
         ["pairs"] => Some(pairs::run()),
         ["steps"] => Some(steps::run()),
         ["read"] => Some(read::run()),

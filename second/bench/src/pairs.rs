@@ -36,7 +36,7 @@ pub enum Tried {
     TooLong,
 }
 
-/// Decides the blocks both ways and prints a row for each; says whether both ways agree everywhere.
+/// Decides the blocks of gates both ways and prints a row for each; says whether both ways agree everywhere.
 pub fn run() -> bool {
     println!("T = {LIMIT}, least of {REPEATS}, milliseconds; trying ends after {LONGEST:?}");
     println!(
@@ -45,7 +45,7 @@ pub fn run() -> bool {
     );
     let mut all_agree = true;
     let mut all_ahead = true;
-    let mut blocks = blocks::all();
+    let mut blocks = blocks::of_gates();
     blocks.retain(|block| OPERAND_BITS.contains(&block.n));
     blocks.sort_by_key(|block| block.n);
     for block in &blocks {
@@ -115,13 +115,7 @@ fn deciding_order(block: &Block) -> (&'static str, Vec<u32>) {
 }
 
 fn question<'a>(block: &'a Block, order: &'a [u32]) -> Question<'a> {
-    Question {
-        counts: block.made.counts,
-        table: &block.made.table,
-        kind: block.reading.kind(),
-        limit: LIMIT,
-        order,
-    }
+    Question::of(&block.made, block.reading.kind(), LIMIT, order)
 }
 
 fn row(block: &Block) -> Row {

@@ -2,6 +2,7 @@
 
 use crate::library;
 use crate::timing::{met, Least};
+use second::cell_netlists::random_cells;
 use second::desk::TABLE_WORDS;
 use second::netlists::{random_sound, Made};
 use second::random::Random;
@@ -22,15 +23,18 @@ pub fn run() -> bool {
     let text = netlist.text();
     let bytes = text.len();
     println!(
-        "{GATES} gates, I = 64, O = 64, {bytes} bytes; least of {REPEATS}, microseconds a call"
+        "{GATES} gates or cells, I = 64, O = 64, {bytes} bytes; least of {REPEATS}, microseconds a call"
     );
     println!(
         "{:<20} {:>10} {:>10} {:>9}",
         "", "library", "second", "lib/sec"
     );
     let read = reads_the_same(&text);
+    let cells = random_cells(&mut random, 64, 64, GATES);
     let evaluates = evaluates_the_same("evaluate, one pair", &netlist, &pairs[..1])
-        & evaluates_the_same("evaluate, many pairs", &netlist, &pairs);
+        & evaluates_the_same("evaluate, many pairs", &netlist, &pairs)
+        & evaluates_the_same("cells, one pair", &cells, &pairs[..1])
+        & evaluates_the_same("cells, many pairs", &cells, &pairs);
     read && evaluates
 }
 
@@ -42,15 +46,14 @@ fn reads_the_same(text: &[u8]) -> bool {
 }
 
 fn evaluates_the_same(name: &str, netlist: &Made, pairs: &[(u64, u64)]) -> bool {
-    let (counts, table) = (netlist.counts, netlist.table.as_slice());
     let pair = |call: usize| black_box(pairs[call % pairs.len()]);
     let by_library = |call| {
         let (a, b) = pair(call);
-        library::evaluate(counts, table, a, b)
+        library::evaluate(netlist, a, b)
     };
     let by_second = |call| {
         let (a, b) = pair(call);
-        second::evaluate(counts, table, a, b)
+        netlist.word_at(a, b)
     };
     gives_the_same(name, by_library, by_second)
 }

@@ -89,14 +89,9 @@ fn print_row(terms: u32, step: f64, ratio: Option<f64>) {
 /// The time of an order with the steps that keep the size, less that without them, for each of them.
 fn step_microseconds(growth: &Growth, terms: u32) -> Option<f64> {
     let long = [growth.building.as_slice(), &growth.keeping].concat();
-    let ask = |order| Question {
-        counts: growth.made.counts,
-        table: &growth.made.table,
-        kind: 0,
-        limit: LIMIT,
-        order,
-    };
-    let (short, long) = (ask(growth.building.as_slice()), ask(long.as_slice()));
+    let made = &growth.made;
+    let short = Question::of(made, 0, LIMIT, &growth.building);
+    let long = Question::of(made, 0, LIMIT, &long);
     let mut lent = Lent::to(&long);
     let (mut without, mut with) = (Least::new(), Least::new());
     for _ in 0..REPEATS {

@@ -3,23 +3,24 @@
 use crate::judges::{by_hash, by_second, Lent, LentToHash, Question, Verdict};
 use crate::pairs::{try_all, Tried};
 use second::brute::least_wrong_pair;
-use second::netlists::{multiplier, random_sound, with_fault, Made};
+use second::netlists::{random_records, right_multiplier, with_fault, Made};
 use second::orders;
 use second::random::Random;
 use second::reading::Reading;
+use second::Records;
 use std::collections::BTreeSet;
 
 /// A right, a faulty or a random netlist with as many outputs as its reading has, some of them large.
-fn netlist(random: &mut Random, reading: Reading, most_bits: usize) -> Made {
+fn netlist(random: &mut Random, records: Records, reading: Reading, most_bits: usize) -> Made {
     let n = 1 + random.below(most_bits) as u32;
     match random.below(4) {
         0 => {
-            let gates = random.pick(&[0, 3, 20, 70, 400]);
-            random_sound(random, 2 * n, reading.outputs(n), gates)
+            let count = random.pick(&[0, 3, 20, 70, 400]);
+            random_records(random, records, 2 * n, reading.outputs(n), count)
         }
-        1 => multiplier(random, reading, n),
+        1 => right_multiplier(random, records, reading, n),
         _ => {
-            let right = multiplier(random, reading, n);
+            let right = right_multiplier(random, records, reading, n);
             with_fault(random, &right)
         }
     }
@@ -37,13 +38,7 @@ fn order(random: &mut Random, made: &Made) -> Vec<u32> {
 
 /// What the hash judge answers, if the second program answers the same.
 fn agreed(made: &Made, kind: u32, limit: u64, order: &[u32]) -> Verdict {
-    let question = Question {
-        counts: made.counts,
-        table: &made.table,
-        kind,
-        limit,
-        order,
-    };
+    let question = Question::of(made, kind, limit, order);
     let hash = by_hash(&question, &mut LentToHash::to(&question));
     let second = by_second(&question, &mut Lent::to(&question));
     assert_eq!(hash, second, "{made:?}, kind {kind}, T {limit}, {order:?}");
@@ -53,25 +48,29 @@ fn agreed(made: &Made, kind: u32, limit: u64, order: &[u32]) -> Verdict {
 #[test]
 fn the_hash_judge_answers_as_the_second_program() {
     let mut random = Random::new(1);
-    let mut letters = BTreeSet::new();
-    for _ in 0..3_000 {
-        let reading = random.pick(&Reading::ALL);
-        let made = netlist(&mut random, reading, 5);
-        let order = order(&mut random, &made);
-        let limit = random.pick(&[128, 200, 1_024]);
-        letters.insert(agreed(&made, reading.kind(), limit, &order).letter);
+    for records in Records::ALL {
+        let mut letters = BTreeSet::new();
+        for _ in 0..2_000 {
+            let reading = random.pick(&Reading::ALL);
+            let made = netlist(&mut random, records, reading, 5);
+            let order = order(&mut random, &made);
+            let limit = random.pick(&[128, 200, 1_024]);
+            letters.insert(agreed(&made, reading.kind(), limit, &order).letter);
+        }
+        assert_eq!(letters, BTreeSet::from(['D', 'E', 'R', 'U']));
     }
-    assert_eq!(letters, BTreeSet::from(['D', 'E', 'R', 'U']));
 }
 
 #[test]
 fn the_hash_judge_answers_as_the_second_program_at_the_most_variables() {
     let mut random = Random::new(2);
     for reading in [Reading::ALL, Reading::ALL].concat() {
-        let made = random_sound(&mut random, 64, reading.outputs(32), 959);
-        let order = orders::falling(made.counts);
-        agreed(&made, reading.kind(), 16_384, &order[..40]);
-        agreed(&made, reading.kind(), 128, &order[..40]);
+        for records in Records::ALL {
+            let made = random_records(&mut random, records, 64, reading.outputs(32), 959);
+            let order = orders::falling(made.counts);
+            agreed(&made, reading.kind(), 16_384, &order[..40]);
+            agreed(&made, reading.kind(), 128, &order[..40]);
+        }
     }
 }
 
@@ -81,13 +80,14 @@ fn trying_all_pairs_finds_what_the_second_program_finds() {
     let mut found = [0, 0];
     for _ in 0..1_000 {
         let reading = random.pick(&Reading::ALL);
-        let made = netlist(&mut random, reading, 5);
-        let wrong = least_wrong_pair(made.counts, &made.table, reading.kind());
+        let made = netlist(&mut random, Records::Gates, reading, 5);
+        let kind = reading.kind();
+        let wrong = least_wrong_pair(made.counts, &made.table, made.records, kind);
         let expected = match wrong.expect("a netlist with the outputs of its reading") {
             Some(_) => Tried::SomeWrong,
             None => Tried::AllRight,
         };
-        assert_eq!(try_all(&made, reading.kind()), expected, "{made:?}");
+        assert_eq!(try_all(&made, kind), expected, "{made:?}");
         found[usize::from(expected == Tried::AllRight)] += 1;
     }
     assert!(found.iter().all(|&times| times > 100), "{found:?}");

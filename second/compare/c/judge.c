@@ -1,9 +1,10 @@
-/* Judging from C. Expected values are those of document 01, or follow from it by hand. */
+/* Judging from C. Expected values are those of document 01, or follow from it and from document 02 by hand. */
 #include "check.h"
 
 /* Up to M 63 a term is two words: T = 128. */
 #define STORE_WORDS 256
 #define SCRATCH_WORDS 1024
+#define CELL_SCRATCH_WORDS 2048
 #define STEPS 10
 /* Words past each lent buffer, and records past the log, that have to keep their mark. */
 #define GUARDS 2
@@ -12,6 +13,7 @@ struct netlist {
     uint32_t m, i, l, o, a;
     const uint32_t *table;
     size_t table_length;
+    uint32_t cells;
 };
 
 static const uint32_t p1_table[] = {6, 0, 4, 2};
@@ -20,15 +22,25 @@ static const uint32_t p9_table[] = {7, 0, 5, 3};
 static const uint32_t p10_table[] = {10, 22, 28, 24, 6,  2,  8,  2,  6,  4,  8,  4,
                                      14, 12, 15, 13, 21, 19, 18, 16, 19, 17, 27, 25};
 
-static const struct netlist p1 = {3, 2, 0, 2, 1, p1_table, 4};
-static const struct netlist p3 = {3, 2, 0, 2, 1, p3_table, 4};
-static const struct netlist p9 = {3, 2, 0, 2, 1, p9_table, 4};
-static const struct netlist p10 = {14, 4, 0, 4, 10, p10_table, 24};
+/* P1 as one cell; a cell for the parity of a_0, a_1 and b_0; two bits as cells (second/blocks/lut, yosys-lut3-u2). */
+static const uint32_t cell_table[] = {6, 0, 136, 1, 2, 0};
+static const uint32_t parity_table[] = {10, 0, 0, 0, 150, 1, 2, 3};
+static const uint32_t two_bit_table[] = {20, 16, 22, 18, 136, 2, 4, 0, 136, 3, 2, 0, 136, 1, 4, 0,
+                                         102, 6, 7, 0,  128, 5, 6, 7, 136, 1, 3, 0, 120, 6, 7, 5};
+
+static const struct netlist p1 = {3, 2, 0, 2, 1, p1_table, 4, HRASKELL_GATES};
+static const struct netlist p3 = {3, 2, 0, 2, 1, p3_table, 4, HRASKELL_GATES};
+static const struct netlist p9 = {3, 2, 0, 2, 1, p9_table, 4, HRASKELL_GATES};
+static const struct netlist p10 = {14, 4, 0, 4, 10, p10_table, 24, HRASKELL_GATES};
+static const struct netlist one_cell = {3, 2, 0, 2, 1, cell_table, 6, HRASKELL_CELLS};
+static const struct netlist parity = {5, 4, 0, 4, 1, parity_table, 8, UINT32_MAX};
+static const struct netlist two_bit_cells = {11, 4, 0, 4, 7, two_bit_table, 32, HRASKELL_CELLS};
 
 static const uint32_t one_step[] = {3};
 static const uint32_t falling[] = {14, 13, 12, 11, 10, 9, 8, 7, 6, 5};
 
-static uint64_t store[STORE_WORDS + GUARDS], scratch[SCRATCH_WORDS + GUARDS];
+static uint64_t store[STORE_WORDS + GUARDS], scratch[CELL_SCRATCH_WORDS + GUARDS];
+static size_t scratch_lent; /* words of it in the last call */
 static uint64_t answer[HRASKELL_ANSWER_WORDS + GUARDS];
 static struct hraskell_step records[STEPS + GUARDS];
 
@@ -72,8 +84,9 @@ static uint32_t judge(const struct netlist *n, uint32_t kind, const uint32_t *or
     mark_words(scratch, COUNT(scratch));
     mark_words(answer, COUNT(answer));
     mark_records();
-    return hraskell_judge(n->m, n->i, n->l, n->o, n->a, n->table, n->table_length, kind, 128, order,
-                          steps, store, STORE_WORDS, scratch, SCRATCH_WORDS, records, steps, answer,
+    scratch_lent = n->cells ? CELL_SCRATCH_WORDS : SCRATCH_WORDS;
+    return hraskell_judge(n->m, n->i, n->l, n->o, n->a, n->table, n->table_length, n->cells, kind, 128,
+                          order, steps, store, STORE_WORDS, scratch, scratch_lent, records, steps, answer,
                           answer_length);
 }
 
@@ -83,7 +96,7 @@ static void leaves(const char *what, const uint64_t *answered, size_t answered_l
 {
     expect_words(what, answer, HRASKELL_ANSWER_WORDS, answered, answered_length, MARK);
     expect_words(what, store, STORE_WORDS, stored, stored_length, 0);
-    expect_words(what, scratch, SCRATCH_WORDS, NULL, 0, 0);
+    expect_words(what, scratch, scratch_lent, NULL, 0, 0);
     expect_records(what, order, steps);
     expect(what, records[steps - 1].terms, answered[1]);
 }
@@ -108,6 +121,26 @@ static void bench_sheet(void)
     leaves("P11", p11_answer, 6, p11_store, 4, falling, 10);
 }
 
+static void lookup_cells(void)
+{
+    static const uint32_t five[] = {5};
+    static const uint64_t cell_answer[] = {1, 0}, two_bit_answer[] = {7, 0};
+    /* a0 + a1 + b0 - 2 a0 a1 - 2 a0 b0 - 2 a1 b0 + 4 a0 a1 b0, less the four products, modulo 16. */
+    static const uint64_t parity_answer[] = {1, 9, 1, 0, 1, 0};
+    static const uint64_t parity_store[] = {12, 20, 14, 18, 4, 14, 12, 12, 13, 10, 1, 8, 14, 6, 1, 4, 1, 2};
+    /* As P11: the block is right when plain, and the last polynomial is that of any such block. */
+    static const uint64_t signed_answer[] = {7, 2, 2, 1, 2, 14}, signed_store[] = {4, 18, 4, 12};
+    const uint32_t *seven_down = falling + 3;
+    expect("P1 as a cell", judge(&one_cell, HRASKELL_PLAIN, one_step, 1, 6), HRASKELL_EQUAL);
+    leaves("P1 as a cell", cell_answer, 2, NULL, 0, one_step, 1);
+    expect("byte 150", judge(&parity, HRASKELL_PLAIN, five, 1, 6), HRASKELL_DIFFERS);
+    leaves("byte 150", parity_answer, 6, parity_store, 18, five, 1);
+    expect("two bits of cells", judge(&two_bit_cells, HRASKELL_PLAIN, seven_down, 7, 6), HRASKELL_EQUAL);
+    leaves("two bits of cells", two_bit_answer, 2, NULL, 0, seven_down, 7);
+    expect("the same under s", judge(&two_bit_cells, HRASKELL_SIGNED, seven_down, 7, 6), HRASKELL_DIFFERS);
+    leaves("the same under s", signed_answer, 6, signed_store, 4, seven_down, 7);
+}
+
 /* A refusal leaves every word as it was. */
 static void refuses(const char *what, const struct netlist *n, uint32_t kind, const uint32_t *order,
                     size_t answer_length, uint32_t number)
@@ -115,16 +148,16 @@ static void refuses(const char *what, const struct netlist *n, uint32_t kind, co
     expect(what, judge(n, kind, order, 1, answer_length), number);
     expect_words(what, answer, HRASKELL_ANSWER_WORDS, NULL, 0, MARK);
     expect_words(what, store, STORE_WORDS, NULL, 0, MARK);
-    expect_words(what, scratch, SCRATCH_WORDS, NULL, 0, MARK);
+    expect_words(what, scratch, scratch_lent, NULL, 0, MARK);
     expect_records(what, NULL, 0);
 }
 
 static void refusals(void)
 {
     static const uint32_t unsound_table[] = {8, 0, 4, 2}, no_gate[] = {2};
-    const struct netlist wrong_sum = {4, 2, 0, 2, 1, p1_table, 4};
-    const struct netlist short_table = {3, 2, 0, 2, 1, p1_table, 3};
-    const struct netlist unsound = {3, 2, 0, 2, 1, unsound_table, 4};
+    const struct netlist wrong_sum = {4, 2, 0, 2, 1, p1_table, 4, HRASKELL_GATES};
+    const struct netlist short_table = {3, 2, 0, 2, 1, p1_table, 3, HRASKELL_GATES};
+    const struct netlist unsound = {3, 2, 0, 2, 1, unsound_table, 4, HRASKELL_GATES};
     refuses("M is not I + A", &wrong_sum, HRASKELL_PLAIN, one_step, 6, 102);
     refuses("table one word short", &short_table, HRASKELL_PLAIN, one_step, 6, 103);
     refuses("output past 2M + 1", &unsound, HRASKELL_PLAIN, one_step, 6, 108);
@@ -135,33 +168,66 @@ static void refusals(void)
     refuses("answer short and wrong counts", &wrong_sum, HRASKELL_PLAIN, one_step, 0, 112);
 }
 
+/* 3 and 8 for cells. The words past a table may be anything. */
+static void cells_refused(void)
+{
+    static const uint32_t byte_255[] = {6, 0, 255, 1, 2, 0, UINT32_MAX}, byte_256[] = {6, 0, 256, 1, 2, 0};
+    static const uint32_t own_first[] = {6, 0, 136, 3, 2, 0}, own_last[] = {6, 0, 136, 1, 2, 3};
+    static const uint64_t constant[] = {1, 2, 0, 0, 1, 0}, constant_store[] = {3, 6, 1, 0};
+    const struct netlist taken = {3, 2, 0, 2, 1, byte_255, 7, HRASKELL_CELLS};
+    const struct netlist past_byte = {3, 2, 0, 2, 1, byte_256, 6, HRASKELL_CELLS};
+    const struct netlist reads_itself = {3, 2, 0, 2, 1, own_first, 6, UINT32_MAX};
+    const struct netlist reads_itself_last = {3, 2, 0, 2, 1, own_last, 6, HRASKELL_CELLS};
+    const struct netlist one_short = {3, 2, 0, 2, 1, cell_table, 5, HRASKELL_CELLS};
+    const struct netlist as_long_as_gates = {3, 2, 0, 2, 1, cell_table, 4, UINT32_MAX};
+    expect("byte 255", judge(&taken, HRASKELL_PLAIN, one_step, 1, 6), HRASKELL_DIFFERS);
+    leaves("byte 255", constant, 6, constant_store, 4, one_step, 1);
+    refuses("byte 256", &past_byte, HRASKELL_PLAIN, one_step, 6, 108);
+    refuses("cell that reads itself", &reads_itself, HRASKELL_PLAIN, one_step, 6, 108);
+    refuses("cell that reads itself last", &reads_itself_last, HRASKELL_PLAIN, one_step, 6, 108);
+    refuses("O + 4A words less one", &one_short, HRASKELL_PLAIN, one_step, 6, 103);
+    refuses("O + 2A words for cells", &as_long_as_gates, HRASKELL_PLAIN, one_step, 6, 103);
+}
+
 /* T outside its limits, and each lent buffer one word or record short. */
 static void lengths(void)
 {
     static const struct {
+        uint32_t cells;
         uint64_t limit;
         size_t store, scratch, log;
         uint32_t number;
     } rows[] = {
-        {127, 256, 1024, 1, 110}, {16385, 256, 1024, 1, 110}, {129, 256, 1024, 1, 112},
-        {128, 255, 1024, 1, 112}, {128, 256, 1023, 1, 112},   {128, 256, 1024, 0, 112},
-        {128, 256, 1024, 1, HRASKELL_EQUAL},
+        {0, 127, 256, 1024, 1, 110},        {0, 16385, 256, 1024, 1, 110}, {0, 129, 256, 1024, 1, 112},
+        {0, 128, 255, 1024, 1, 112},        {0, 128, 256, 1023, 1, 112},   {0, 128, 256, 1024, 0, 112},
+        {0, 128, 256, 1024, 1, 0},          {1, 127, 256, 2048, 1, 110},   {1, 128, 255, 2048, 1, 112},
+        {1, 128, 256, 1024, 1, 112},        {1, 128, 256, 2047, 1, 112},   {1, 128, 256, 2048, 0, 112},
+        {UINT32_MAX, 128, 256, 2047, 1, 112}, {UINT32_MAX, 128, 256, 2048, 1, 0},
     };
-    for (size_t at = 0; at < COUNT(rows); at++)
+    for (size_t at = 0; at < COUNT(rows); at++) {
+        const struct netlist *n = rows[at].cells ? &one_cell : &p1;
         expect("limit and lengths",
-               hraskell_judge(3, 2, 0, 2, 1, p1_table, 4, HRASKELL_PLAIN, rows[at].limit, one_step, 1, store,
-                              rows[at].store, scratch, rows[at].scratch, records, rows[at].log, answer, 6),
+               hraskell_judge(3, 2, 0, 2, 1, n->table, n->table_length, rows[at].cells, HRASKELL_PLAIN,
+                              rows[at].limit, one_step, 1, store, rows[at].store, scratch, rows[at].scratch,
+                              records, rows[at].log, answer, 6),
                rows[at].number);
+    }
     expect("words of the store", HRASKELL_STORE_WORDS(3, 128), STORE_WORDS);
     expect("words of scratch", HRASKELL_SCRATCH_WORDS(3, 128), SCRATCH_WORDS);
+    expect("words of scratch for cells", HRASKELL_CELL_SCRATCH_WORDS(3, 128), CELL_SCRATCH_WORDS);
     expect("words of a term, M 1,023", HRASKELL_TERM_WORDS(1023), 17);
+    /* 64 outputs, and 1,021 gates or cells on two inputs. */
+    expect("longest table of gates", HRASKELL_TABLE_WORDS_MOST, 64 + 2 * 1021);
+    expect("longest table of cells", HRASKELL_CELL_TABLE_WORDS_MOST, 64 + 4 * 1021);
     expect("bytes of a record", sizeof(struct hraskell_step), 8);
 }
 
 int main(void)
 {
     bench_sheet();
+    lookup_cells();
     refusals();
+    cells_refused();
     lengths();
     return verdict("judging from C");
 }

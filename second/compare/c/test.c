@@ -1,4 +1,4 @@
-/* Reading and evaluating from C. Expected values are those of document 01, or follow from it by hand. */
+/* Reading and evaluating from C. Expected values are those of document 01, or follow from it and from document 02 by hand. */
 #include "check.h"
 #include <string.h>
 
@@ -82,16 +82,23 @@ static void cut_texts(void)
     }
 }
 
-/* Evaluates the given counts and table; a refusal has to leave the word. */
-static void evaluates(const char *what, const uint32_t *c, const uint32_t *table, size_t table_length,
-                      uint64_t x, uint64_t y, uint32_t number, uint64_t wanted)
+/* Evaluates the given counts and table of gates or of cells; a refusal has to leave the word. */
+static void evaluates_records(const char *what, const uint32_t *c, const uint32_t *table, size_t table_length,
+                              uint32_t cells, uint64_t x, uint64_t y, uint32_t number, uint64_t wanted)
 {
     uint64_t word[2] = {MARK, MARK};
     expect(what,
-           hraskell_evaluate(c[0], c[1], c[2], c[3], c[4], table, table_length, x, y, word, 1),
+           hraskell_evaluate(c[0], c[1], c[2], c[3], c[4], table, table_length, cells, x, y, word, 1),
            number);
     expect(what, word[0], number == HRASKELL_DONE ? wanted : MARK);
     expect(what, word[1], MARK);
+}
+
+/* The same for gates. */
+static void evaluates(const char *what, const uint32_t *c, const uint32_t *table, size_t table_length,
+                      uint64_t x, uint64_t y, uint32_t number, uint64_t wanted)
+{
+    evaluates_records(what, c, table, table_length, HRASKELL_GATES, x, y, number, wanted);
 }
 
 static void values(void)
@@ -123,9 +130,46 @@ static void values_refused(void)
     evaluates("short and unsound", and_counts, past_output, 3, 1, 1, 103, 0);
     evaluates("output past 2M + 1", and_counts, past_output, 4, 1, 1, 108, 0);
     evaluates("gate that reads itself", and_counts, reads_itself, 4, 1, 1, 108, 0);
-    expect("no word", hraskell_evaluate(3, 2, 0, 2, 1, p1_table, 4, 1, 1, word, 0), 112);
-    expect("no word and wrong counts", hraskell_evaluate(4, 2, 0, 2, 1, p1_table, 4, 1, 1, word, 0), 112);
+    expect("no word", hraskell_evaluate(3, 2, 0, 2, 1, p1_table, 4, 0, 1, 1, word, 0), 112);
+    expect("no word and wrong counts", hraskell_evaluate(4, 2, 0, 2, 1, p1_table, 4, 0, 1, 1, word, 0), 112);
     expect("no word", word[0], MARK);
+}
+
+/* A block of two bits (second/blocks/lut, yosys-lut3-u2), and every byte at every value of its three variables. */
+static void cell_values(void)
+{
+    static const uint32_t block_counts[] = {11, 4, 0, 4, 7}, byte_counts[] = {5, 4, 0, 2, 1};
+    static const uint32_t block[] = {20, 16, 22, 18, 136, 2, 4, 0, 136, 3, 2, 0, 136, 1, 4, 0,
+                                     102, 6, 7, 0,  128, 5, 6, 7, 136, 1, 3, 0, 120, 6, 7, 5};
+    for (uint64_t x = 0; x < 4; x++)
+        for (uint64_t y = 0; y < 4; y++) {
+            evaluates_records("two bits of cells", block_counts, block, 32, 1, x, y, HRASKELL_DONE, x * y);
+            evaluates_records("any number names cells", block_counts, block, 32, UINT32_MAX, x, y,
+                              HRASKELL_DONE, x * y);
+        }
+    for (uint32_t byte = 0; byte < 256; byte++)
+        for (uint64_t index = 0; index < 8; index++) {
+            /* Variables 1 and 2 are the bits of x, variable 3 is the lowest of y. The outputs show it and its inverse. */
+            uint32_t table[] = {10, 11, byte, 1, 2, 3};
+            uint64_t bit = byte >> index & 1;
+            evaluates_records("a byte", byte_counts, table, 6, 1, index % 4, index / 4, HRASKELL_DONE, 2 - bit);
+        }
+}
+
+static void cell_values_refused(void)
+{
+    static const uint32_t right[] = {6, 0, 136, 1, 2, 0}, byte_256[] = {6, 0, 256, 1, 2, 0};
+    static const uint32_t own_first[] = {6, 0, 136, 3, 2, 0}, own_last[] = {6, 0, 136, 1, 2, 3};
+    static const uint32_t past_output[] = {8, 0, 136, 1, 2, 0};
+    evaluates_records("P1 as a cell", and_counts, right, 6, 1, 1, 1, HRASKELL_DONE, 1);
+    evaluates_records("the same words as gates", and_counts, right, 6, 0, 1, 1, 108, 0);
+    evaluates_records("O + 4A words less one", and_counts, right, 5, 1, 1, 1, 103, 0);
+    evaluates_records("O + 2A words for cells", and_counts, p1_table, 4, UINT32_MAX, 1, 1, 103, 0);
+    evaluates_records("short and unsound", and_counts, byte_256, 5, 1, 1, 1, 103, 0);
+    evaluates_records("byte 256", and_counts, byte_256, 6, 1, 1, 1, 108, 0);
+    evaluates_records("cell that reads itself", and_counts, own_first, 6, 1, 1, 1, 108, 0);
+    evaluates_records("cell that reads itself last", and_counts, own_last, 6, UINT32_MAX, 1, 1, 108, 0);
+    evaluates_records("output past 2M + 1", and_counts, past_output, 6, 1, 1, 1, 108, 0);
 }
 
 int main(void)
@@ -134,5 +178,7 @@ int main(void)
     cut_texts();
     values();
     values_refused();
+    cell_values();
+    cell_values_refused();
     return verdict("reading and evaluating from C");
 }

@@ -15,6 +15,8 @@ use second::{Counts, Lent};
 pub struct Question<'a> {
     pub counts: Counts,
     pub table: &'a [u32],
+    /// 0 for a table of AND gates, any other number for one of lookup cells.
+    pub cells: u32,
     pub kind: u32,
     pub limit: u64,
     pub order: &'a [u32],

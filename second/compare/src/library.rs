@@ -21,6 +21,7 @@ extern "C" {
         a: u32,
         table: *const u32,
         table_words: usize,
+        cells: u32,
         x: u64,
         y: u64,
         word: *mut u64,
@@ -35,6 +36,7 @@ extern "C" {
         a: u32,
         table: *const u32,
         table_words: usize,
+        cells: u32,
         kind: u32,
         limit: u64,
         order: *const u32,
@@ -65,13 +67,13 @@ pub fn read(text: &[u8], table: &mut [u32], counts: &mut [u32]) -> u32 {
 
 /// The library's evaluator of one operand pair.
 #[rustfmt::skip]
-pub fn evaluate(counts: Counts, table: &[u32], x: u64, y: u64, word: &mut [u64]) -> u32 {
+pub fn evaluate(counts: Counts, table: &[u32], cells: u32, x: u64, y: u64, word: &mut [u64]) -> u32 {
     let Counts { m, i, l, o, a } = counts;
     // SAFETY: slices are never null, and the one lent for writing overlaps nothing.
     unsafe {
         hraskell_evaluate(
             m, i, l, o, a,
-            table.as_ptr(), table.len(),
+            table.as_ptr(), table.len(), cells,
             x, y,
             word.as_mut_ptr(), word.len(),
         )
@@ -87,7 +89,7 @@ pub fn judge(question: Question, answer: &mut [u64]) -> u32 {
     unsafe {
         hraskell_judge(
             m, i, l, o, a,
-            table.as_ptr(), table.len(),
+            table.as_ptr(), table.len(), question.cells,
             question.kind, question.limit,
             order.as_ptr(), order.len(),
             lent.store.as_mut_ptr(), lent.store.len(),

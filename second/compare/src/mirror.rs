@@ -2,7 +2,7 @@
 
 use crate::Question;
 use second::rules::LENT_SHORT;
-use second::{evaluate_by, judge_by, read_by, Answer, Counts, Rules};
+use second::{evaluate_by, judge_by, read_by, Answer, Counts, Records, Rules};
 
 /// Added to a number of refusal.
 const REFUSED: u32 = 100;
@@ -17,6 +17,34 @@ struct Boundary {
     own_buffer_is_measured_first: bool,
     other_words_are_kept: bool,
     refusal_changes_nothing: bool,
+    every_number_but_0_is_cells: bool,
+    cells_is_32_bits: bool,
+}
+
+impl Boundary {
+    const fn of_document() -> Boundary {
+        Boundary {
+            own_buffer_is_measured_first: true,
+            other_words_are_kept: true,
+            refusal_changes_nothing: true,
+            every_number_but_0_is_cells: true,
+            cells_is_32_bits: true,
+        }
+    }
+
+    /// The kind of record that a number names.
+    fn records(self, cells: u32) -> Records {
+        let seen = if self.cells_is_32_bits {
+            cells
+        } else {
+            cells % 256
+        };
+        match seen {
+            0 => Records::Gates,
+            2.. if !self.every_number_but_0_is_cells => Records::Gates,
+            _ => Records::Cells,
+        }
+    }
 }
 
 /// The second program as it would be exported.
@@ -30,11 +58,7 @@ impl Mirror {
     pub const fn of_document() -> Mirror {
         Mirror {
             rules: Rules::of_document(),
-            boundary: Boundary {
-                own_buffer_is_measured_first: true,
-                other_words_are_kept: true,
-                refusal_changes_nothing: true,
-            },
+            boundary: Boundary::of_document(),
         }
     }
 
@@ -56,6 +80,17 @@ impl Mirror {
                 boundary.refusal_changes_nothing = false
             }),
         ]);
+        // Reading is told of no cells.
+        if function != "read" {
+            mutants.extend([
+                bend("only 1 names cells", |boundary| {
+                    boundary.every_number_but_0_is_cells = false
+                }),
+                bend("the number that names cells taken modulo 256", |boundary| {
+                    boundary.cells_is_32_bits = false
+                }),
+            ]);
+        }
         mutants
     }
 
@@ -66,13 +101,24 @@ impl Mirror {
         })
     }
 
-    pub fn evaluate(&self, counts: Counts, table: &[u32], x: u64, y: u64, word: &mut [u64]) -> u32 {
+    pub fn evaluate(
+        &self,
+        counts: Counts,
+        table: &[u32],
+        cells: u32,
+        x: u64,
+        y: u64,
+        word: &mut [u64],
+    ) -> u32 {
+        let records = self.boundary.records(cells);
         self.bounded(word, 1, || {
-            Ok((0, vec![evaluate_by(&self.rules, counts, table, x, y)?]))
+            let shown = evaluate_by(&self.rules, counts, table, records, x, y)?;
+            Ok((0, vec![shown]))
         })
     }
 
     pub fn judge(&self, question: Question, answer: &mut [u64]) -> u32 {
+        let records = self.boundary.records(question.cells);
         self.bounded(answer, ANSWER_WORDS, || {
             let Question {
                 counts,
@@ -81,11 +127,13 @@ impl Mirror {
                 limit,
                 order,
                 lent,
+                ..
             } = question;
             numbered(judge_by(
                 &self.rules,
                 counts,
                 table,
+                records,
                 kind,
                 limit,
                 order,
@@ -147,4 +195,14 @@ fn numbered(answer: Answer) -> Result<(u32, Vec<u64>), u32> {
         Answer::Refused(number) => return Err(number),
     };
     Ok((number, words))
+}
+
+/// A number that names this kind of record: 0 for gates, now one and now another for cells.
+pub fn number_of(records: Records, turn: usize) -> u32 {
+    // The lowest byte, the lower half and the sign are each all that some of them have.
+    let numbers = [1, u32::MAX, 256, 2, 1 << 16, 1 << 31];
+    match records {
+        Records::Gates => 0,
+        Records::Cells => numbers[turn % numbers.len()],
+    }
 }

@@ -1,37 +1,50 @@
 //! The evaluator of one operand pair: the library against the second program.
 
 use compare::library;
-use compare::mirror::Mirror;
+use compare::mirror::{number_of, Mirror};
 use compare::outcome::{first_difference, numbers_given, Guarded, Outcome};
 use second::cases::pairs::{self, PairCase};
 use second::random::Random;
-use second::Counts;
+use second::{Counts, Records};
 use std::sync::LazyLock;
 
-type Generator = fn(&mut Random) -> PairCase;
+type Generator = fn(&mut Random, Records) -> PairCase;
 
-/// Each generator of cases, and how many are taken from it.
-const GENERATORS: [(u64, Generator); 5] = [
-    (9_000, pairs::sound),
-    (4_000, pairs::random),
-    (4_000, pairs::of_wrong_counts),
-    (2_000, pairs::of_short_table),
-    (4_000, pairs::of_unsound_table),
+/// Each generator of cases, and how many of each kind of record are taken from it.
+const GENERATORS: [(usize, Generator); 5] = [
+    (6_000, pairs::sound),
+    (3_000, pairs::random),
+    (2_000, pairs::of_wrong_counts),
+    (1_500, pairs::of_short_table),
+    (3_000, pairs::of_unsound_table),
 ];
 
 #[derive(Debug)]
 struct EvaluateCase {
     pair: PairCase,
+    cells: u32,
     result_words: usize,
 }
 
 impl EvaluateCase {
+    /// The turn chooses the number that names cells.
+    fn new(pair: PairCase, turn: usize, result_words: usize) -> EvaluateCase {
+        EvaluateCase {
+            cells: number_of(pair.records, turn),
+            pair,
+            result_words,
+        }
+    }
+
     /// What a call on fresh buffers leaves, whoever answers it.
-    fn outcome(&self, evaluator: impl Fn(Counts, &[u32], u64, u64, &mut [u64]) -> u32) -> Outcome {
+    fn outcome(
+        &self,
+        evaluator: impl Fn(Counts, &[u32], u32, u64, u64, &mut [u64]) -> u32,
+    ) -> Outcome {
         let PairCase { counts, a, b, .. } = self.pair;
         let table = Guarded::holding(&self.pair.table);
         let mut word = Guarded::<u64>::marked(self.result_words);
-        let number = evaluator(counts, table.lent(), a, b, word.lent_mut());
+        let number = evaluator(counts, table.lent(), self.cells, a, b, word.lent_mut());
         Outcome {
             number,
             buffers: vec![table.named("table"), word.named("word")],
@@ -39,7 +52,9 @@ impl EvaluateCase {
     }
 
     fn by(&self, mirror: &Mirror) -> Outcome {
-        self.outcome(|counts, table, x, y, word| mirror.evaluate(counts, table, x, y, word))
+        self.outcome(|counts, table, cells, x, y, word| {
+            mirror.evaluate(counts, table, cells, x, y, word)
+        })
     }
 }
 
@@ -48,18 +63,19 @@ static CASES: LazyLock<Vec<EvaluateCase>> = LazyLock::new(cases);
 
 fn cases() -> Vec<EvaluateCase> {
     let mut cases = Vec::new();
-    for pair in pairs::edges() {
+    for (turn, pair) in pairs::edges().into_iter().enumerate() {
         for result_words in [1, 0, 3] {
-            let pair = pair.clone();
-            cases.push(EvaluateCase { pair, result_words });
+            cases.push(EvaluateCase::new(pair.clone(), turn, result_words));
         }
     }
     let mut random = Random::new(2);
     for (count, generator) in GENERATORS {
-        for _ in 0..count {
-            let pair = generator(&mut random);
-            let result_words = random.pick(&[0, 1, 1, 1, 1, 1, 1, 2, 4]);
-            cases.push(EvaluateCase { pair, result_words });
+        for turn in 0..count {
+            for records in Records::ALL {
+                let pair = generator(&mut random, records);
+                let result_words = random.pick(&[0, 1, 1, 1, 1, 1, 1, 2, 4]);
+                cases.push(EvaluateCase::new(pair, turn, result_words));
+            }
         }
     }
     cases
@@ -67,7 +83,7 @@ fn cases() -> Vec<EvaluateCase> {
 
 #[test]
 fn evaluating_gives_the_same_numbers_and_words() {
-    assert!(CASES.len() >= 20_000);
+    assert!(CASES.len() >= 30_000);
     println!("{} cases of evaluating", CASES.len());
     let document = Mirror::of_document();
     let library = |case: &EvaluateCase| case.outcome(library::evaluate);
@@ -78,8 +94,12 @@ fn evaluating_gives_the_same_numbers_and_words() {
 #[test]
 fn the_cases_of_evaluating_meet_every_number() {
     let document = Mirror::of_document();
-    let numbers = numbers_given(&CASES, |case| case.by(&document));
-    assert_eq!(numbers, [0, 102, 103, 108, 112]);
+    let (gates, cells): (Vec<&EvaluateCase>, Vec<&EvaluateCase>) =
+        CASES.iter().partition(|case| case.cells == 0);
+    for cases in [gates, cells] {
+        let numbers = numbers_given(&cases, |case| case.by(&document));
+        assert_eq!(numbers, [0, 102, 103, 108, 112]);
+    }
 }
 
 #[test]

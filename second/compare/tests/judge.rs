@@ -1,28 +1,36 @@
 //! Judging: the library against the second program.
 
-use compare::mirror::Mirror;
+use compare::mirror::{number_of, Mirror};
 use compare::outcome::{first_difference, numbers_given, Guarded, Outcome};
 use compare::{library, Question};
+use second::cases::cells::{and_cell, cell};
 use second::cases::judgements::{self, and_netlist, two_bits, JudgeCase};
 use second::cases::runs;
-use second::netlists::{random_sound, Made};
+use second::netlists::{random_records, random_sound, Made};
 use second::orders;
 use second::random::Random;
-use second::{Lent, Step};
+use second::{Lent, Records, Step};
 use std::sync::LazyLock;
 
 #[derive(Clone, Debug)]
 struct Call {
     case: JudgeCase,
+    cells: u32,
     answer_words: usize,
 }
 
 impl Call {
     /// A call with just the words that an answer needs.
     fn new(case: JudgeCase) -> Call {
+        Call::lending(case, 6)
+    }
+
+    fn lending(case: JudgeCase, answer_words: usize) -> Call {
         Call {
+            // Cases differ in the words they lend, so all numbers that name cells come up.
+            cells: number_of(case.records, case.table.len() + case.order.len()),
             case,
-            answer_words: 6,
+            answer_words,
         }
     }
 
@@ -38,6 +46,7 @@ impl Call {
         let question = Question {
             counts: case.counts,
             table: table.lent(),
+            cells: self.cells,
             kind: case.kind,
             limit: case.limit,
             order: order.lent(),
@@ -78,17 +87,19 @@ fn calls() -> Vec<Call> {
     let mut calls: Vec<Call> = named.map(|(_, case, _)| Call::new(case)).collect();
     calls.extend(edge_calls());
     let mut random = Random::new(3);
-    calls.extend(room_calls(&mut random));
-    calls.extend(size_calls(&mut random));
-    calls.extend(refusal_calls(&mut random));
+    for records in Records::ALL {
+        calls.extend(room_calls(&mut random, records));
+        calls.extend(size_calls(&mut random, records));
+        calls.extend(refusal_calls(&mut random, records));
+    }
     calls.extend(runs::real_blocks().into_iter().map(Call::new));
-    for _ in 0..3_500 {
-        let mut case = judgements::random(&mut random);
+    for turn in 0..5_000 {
+        let mut case = judgements::random(&mut random, Records::ALL[turn % 2]);
         if random.one_in(2) {
             runs::lend_more(&mut random, &mut case);
         }
         let answer_words = random.pick(&[6, 6, 6, 6, 6, 6, 7, 11, 5]);
-        calls.push(Call { case, answer_words });
+        calls.push(Call::lending(case, answer_words));
     }
     calls
 }
@@ -98,26 +109,24 @@ fn edge_calls() -> Vec<Call> {
     let mut calls = Vec::new();
     for case in judgements::edges() {
         for answer_words in [6, 9] {
-            let case = case.clone();
-            calls.push(Call { case, answer_words });
+            calls.push(Call::lending(case.clone(), answer_words));
         }
     }
     for (place, case) in judgements::edges().into_iter().enumerate() {
-        let answer_words = [5, 0][place % 2];
-        calls.push(Call { case, answer_words });
+        calls.push(Call::lending(case, [5, 0][place % 2]));
     }
     calls
 }
 
 /// T at and around the number of terms, at the start and later, and at its largest.
-fn room_calls(random: &mut Random) -> Vec<Call> {
-    let mut cases = runs::around_largest_limit();
-    for _ in 0..150 {
-        cases.extend(runs::around_terms(random));
-        cases.extend(runs::around_start(random));
+fn room_calls(random: &mut Random, records: Records) -> Vec<Call> {
+    let mut cases = runs::around_largest_limit(records);
+    for _ in 0..100 {
+        cases.extend(runs::around_terms(random, records));
+        cases.extend(runs::around_start(random, records));
     }
     for limit in [128, 144, 160, 168, 169, 170] {
-        cases.extend((0..10).map(|_| runs::twelve_bits(random, limit)));
+        cases.extend((0..8).map(|_| runs::twelve_bits(random, records, limit)));
     }
     for case in cases.iter_mut().step_by(2) {
         runs::lend_more(random, case);
@@ -126,12 +135,14 @@ fn room_calls(random: &mut Random) -> Vec<Call> {
 }
 
 /// M at the borders of words and at its most, I 64, and the longest orders.
-fn size_calls(random: &mut Random) -> Vec<Call> {
-    let mut cases: Vec<JudgeCase> = (0..200).map(|_| runs::at_word_borders(random)).collect();
+fn size_calls(random: &mut Random, records: Records) -> Vec<Call> {
+    let mut cases: Vec<JudgeCase> = (0..150)
+        .map(|_| runs::at_word_borders(random, records))
+        .collect();
     for steps in [4_095, 4_096, 4_097] {
-        cases.extend((0..6).map(|_| runs::long_order(random, steps)));
+        cases.extend((0..4).map(|_| runs::long_order(random, records, steps)));
     }
-    let largest = random_sound(random, 64, 64, 959);
+    let largest = random_records(random, records, 64, 64, 959);
     for kind in 0..2 {
         let order = orders::falling(largest.counts)[..20].to_vec();
         cases.push(JudgeCase::new(&largest, kind, 16_384, order));
@@ -140,13 +151,12 @@ fn size_calls(random: &mut Random) -> Vec<Call> {
 }
 
 /// Every refusal and every two at once, each with enough words for the answer and with too few.
-fn refusal_calls(random: &mut Random) -> Vec<Call> {
+fn refusal_calls(random: &mut Random, records: Records) -> Vec<Call> {
     let mut calls = Vec::new();
-    for _ in 0..12 {
-        for case in runs::refusals(random) {
+    for _ in 0..8 {
+        for case in runs::refusals(random, records) {
             for answer_words in [random.pick(&[6, 8]), random.pick(&[0, 5])] {
-                let case = case.clone();
-                calls.push(Call { case, answer_words });
+                calls.push(Call::lending(case.clone(), answer_words));
             }
         }
     }
@@ -185,11 +195,13 @@ type Named = (&'static str, JudgeCase, Said);
 fn named() -> Vec<Named> {
     let mut named = bench_sheet();
     named.extend(at_the_limits());
+    named.extend(cells_by_hand());
     let mut random = Random::new(4);
-    for _ in 0..12 {
-        let tight = runs::twelve_bits(&mut random, 128);
+    for turn in 0..12 {
+        let records = Records::ALL[turn % 2];
+        let tight = runs::twelve_bits(&mut random, records, 128);
         named.push(("n = 12, u, T = 128", tight, Said::FullAtStart(true)));
-        let roomy = runs::twelve_bits(&mut random, 169);
+        let roomy = runs::twelve_bits(&mut random, records, 169);
         named.push(("n = 12, u, T = 169", roomy, Said::FullAtStart(false)));
     }
     named
@@ -247,9 +259,35 @@ fn at_the_limits() -> Vec<Named> {
     ]
 }
 
+/// Tables of cells, worked out by hand from document 02, section 5.
+#[rustfmt::skip]
+fn cells_by_hand() -> Vec<Named> {
+    let and = |outputs: &[u32], kind| JudgeCase::new(&and_cell(outputs), kind, 128, vec![3]);
+    let with = |change: fn(&mut JudgeCase)| {
+        let mut case = and(&[6, 0], 0);
+        change(&mut case);
+        case
+    };
+    // a0 + a1 + b0 - 2 a0 a1 - 2 a0 b0 - 2 a1 b0 + 4 a0 a1 b0, less the four products.
+    let parity = Made::of_cells(4, &[10, 0, 0, 0], &[cell(150, 1, 2, 3)]);
+    vec![
+        ("a cell of P1", and(&[6, 0], 0), Said::Answers(0, &[1, 0])),
+        ("a cell of P3", and(&[6, 6], 0), Said::Answers(1, &[1, 1, 1, 1, 3, 1])),
+        ("a cell of P5", and(&[7, 0], 0), Said::Answers(1, &[1, 2, 0, 0, 1, 0])),
+        ("byte 150", JudgeCase::new(&parity, 0, 128, vec![5]), Said::Answers(1, &[1, 9, 1, 0, 1, 0])),
+        ("O + 4A words less one", with(|case| case.table.truncate(5)), Said::Refused(3)),
+        ("byte 255", with(|case| case.table[2] = 255), Said::Answers(1, &[1, 2, 0, 0, 1, 0])),
+        ("byte 256", with(|case| case.table[2] = 256), Said::Refused(8)),
+        ("its own variable", with(|case| case.table[5] = 3), Said::Refused(8)),
+        ("8T(W + 1) words of scratch", with(|case| case.scratch_words = 2_048), Said::Answers(0, &[1, 0])),
+        ("one less", with(|case| case.scratch_words = 2_047), Said::Refused(12)),
+        ("4T(W + 1) words of scratch", with(|case| case.scratch_words = 1_024), Said::Refused(12)),
+    ]
+}
+
 #[test]
 fn judging_gives_the_same_numbers_and_words() {
-    assert!(CALLS.len() >= 5_000);
+    assert!(CALLS.len() >= 10_000);
     println!("{} cases of judging", CALLS.len());
     let document = Mirror::of_document();
     let difference = first_difference(&CALLS, Call::by_library, |call| call.by(&document));
@@ -274,9 +312,12 @@ fn the_cases_that_the_document_names_are_answered_as_it_says() {
 #[test]
 fn the_cases_of_judging_meet_every_number() {
     let document = Mirror::of_document();
-    let numbers = numbers_given(&CALLS, |call| call.by(&document));
-    let expected = [0, 1, 2, 3, 102, 103, 108, 109, 110, 111, 112];
-    assert_eq!(numbers, expected);
+    let (gates, cells): (Vec<&Call>, Vec<&Call>) = CALLS.iter().partition(|call| call.cells == 0);
+    for calls in [gates, cells] {
+        let numbers = numbers_given(&calls, |call| call.by(&document));
+        let expected = [0, 1, 2, 3, 102, 103, 108, 109, 110, 111, 112];
+        assert_eq!(numbers, expected);
+    }
 }
 
 #[test]

@@ -8,6 +8,7 @@ use second::cases::judgements::two_bits;
 use second::cases::texts::{self, TextCase, AND_TEXT};
 use second::netlists::{random_size, Made};
 use second::random::Random;
+use second::Records;
 use std::fmt;
 use std::sync::LazyLock;
 
@@ -62,12 +63,12 @@ fn cases() -> Vec<ReadCase> {
     cases.extend(cut_cases());
     let mut random = Random::new(1);
     for _ in 0..SOUND {
-        let made = random_size(&mut random);
+        let made = random_size(&mut random, Records::Gates);
         cases.push(random_buffers(&mut random, made.text(), &made));
     }
     for damage in Damage::ALL {
         for _ in 0..OF_EACH_DAMAGE {
-            let made = random_size(&mut random);
+            let made = random_size(&mut random, Records::Gates);
             let text = damage.text_of(&mut random, &made);
             cases.push(random_buffers(&mut random, text, &made));
         }

@@ -106,6 +106,6 @@ fn most_allowed(made: &Made, line: usize, field: usize) -> u32 {
         return 2 * m + 1;
     }
     let gate = line - o;
-    let rhs0 = made.netlist().gate(gate).0;
+    let rhs0 = made.table[o as usize + 2 * (gate - i - 1) as usize];
     [2 * gate, 2 * gate - 1, rhs0][field]
 }

@@ -5,6 +5,7 @@ use super::texts::{self, change, made_at_limits};
 use crate::netlists::{random_sound, Made};
 use crate::random::Random;
 use crate::reading::Reading;
+use crate::records::Records;
 
 /// A kind line, then the text.
 pub fn input(kind_line: &str, text: &[u8]) -> Vec<u8> {
@@ -72,7 +73,7 @@ fn long_inputs() -> Vec<Vec<u8>> {
 /// A random netlist's text under some kind, sometimes changed.
 pub fn random(random: &mut Random) -> Vec<u8> {
     let reading = random.pick(&Reading::ALL);
-    let made = random_netlist(random, reading);
+    let made = random_netlist(random, Records::Gates, reading);
     let letter = if random.one_in(8) {
         random.pick(b"ustx")
     } else {

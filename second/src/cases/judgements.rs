@@ -2,12 +2,13 @@
 
 use super::pairs::wrong_netlists;
 use super::texts::made_at_limits;
-use super::{marked_steps, marked_words};
+use super::{cells, marked_steps, marked_words};
 use crate::judge::{judge_by, Answer};
-use crate::netlists::{multiplier, random_sound, with_fault, Made};
+use crate::netlists::{random_records, right_multiplier, with_fault, Made};
 use crate::orders;
 use crate::random::Random;
 use crate::reading::Reading;
+use crate::records::Records;
 use crate::rules::Rules;
 use crate::table::Counts;
 use crate::words::{Lent, Step};
@@ -16,6 +17,7 @@ use crate::words::{Lent, Step};
 pub struct JudgeCase {
     pub counts: Counts,
     pub table: Vec<u32>,
+    pub records: Records,
     pub kind: u32,
     pub limit: u64,
     pub order: Vec<u32>,
@@ -41,10 +43,11 @@ impl JudgeCase {
         JudgeCase {
             counts: made.counts,
             table: made.table.clone(),
+            records: made.records,
             kind,
             limit,
             store_words,
-            scratch_words: 4 * store_words,
+            scratch_words: made.records.most_made() * store_words,
             log_records: order.len(),
             order,
         }
@@ -64,6 +67,7 @@ impl JudgeCase {
             rules,
             self.counts,
             table,
+            self.records,
             self.kind,
             self.limit,
             order,
@@ -129,7 +133,8 @@ pub fn edges() -> Vec<JudgeCase> {
     cases.extend(wrong_pairs());
     cases.extend(lengths());
     cases.extend(handed_in_wrong());
-    cases.extend(two_refusals());
+    cases.extend(two_refusals(&and_netlist(&[6, 0])));
+    cases.extend(cells::judgements());
     cases
 }
 
@@ -241,9 +246,9 @@ fn handed_in_wrong() -> Vec<JudgeCase> {
     cases
 }
 
-/// Pairs of wrong things, so that the order of the checks shows.
-fn two_refusals() -> Vec<JudgeCase> {
-    let right = JudgeCase::new(&and_netlist(&[6, 0]), 0, 128, vec![3]);
+/// Pairs of wrong things, so that the order of the checks shows. The netlist is right, and has one gate or cell.
+pub fn two_refusals(made: &Made) -> Vec<JudgeCase> {
+    let right = JudgeCase::new(made, 0, 128, vec![3]);
     let wrong: [fn(&mut JudgeCase); 9] = [
         |case| case.counts.l = 1,
         |case| case.table.truncate(3),
@@ -268,9 +273,9 @@ fn two_refusals() -> Vec<JudgeCase> {
 }
 
 /// A small netlist under some reading, some order and some limit, with room for the words or more.
-pub fn random(random: &mut Random) -> JudgeCase {
+pub fn random(random: &mut Random, records: Records) -> JudgeCase {
     let reading = random.pick(&Reading::ALL);
-    let made = random_netlist(random, reading);
+    let made = random_netlist(random, records, reading);
     let order = random_order(random, &made);
     let limit = if random.one_in(3) {
         128 + random.below(400) as u64
@@ -287,17 +292,17 @@ pub fn random(random: &mut Random) -> JudgeCase {
 }
 
 /// Right multipliers, multipliers with a fault, and netlists with nothing in mind.
-pub fn random_netlist(random: &mut Random, reading: Reading) -> Made {
+pub fn random_netlist(random: &mut Random, records: Records, reading: Reading) -> Made {
     let n = 1 + random.below(4) as u32;
     match random.below(4) {
-        0 => multiplier(random, reading, n),
+        0 => right_multiplier(random, records, reading, n),
         1 => {
-            let right = multiplier(random, reading, n);
+            let right = right_multiplier(random, records, reading, n);
             with_fault(random, &right)
         }
         _ => {
-            let gates = random.below(16) as u32;
-            random_sound(random, 2 * n, reading.outputs(n), gates)
+            let count = random.below(16) as u32;
+            random_records(random, records, 2 * n, reading.outputs(n), count)
         }
     }
 }

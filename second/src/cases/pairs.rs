@@ -1,10 +1,11 @@
 //! Cases for the evaluator of one operand pair.
 
 use super::texts::made_at_limits;
-use super::{marked_numbers, wrong};
-use crate::netlists::{random_size, random_sound, Made};
+use super::{cells, marked_numbers, wrong};
+use crate::netlists::{random_records, random_size, Made};
 use crate::random::Random;
 use crate::reading::low_bits;
+use crate::records::Records;
 use crate::rules::Rules;
 use crate::table::{evaluate_by, Counts};
 
@@ -12,28 +13,43 @@ use crate::table::{evaluate_by, Counts};
 pub struct PairCase {
     pub counts: Counts,
     pub table: Vec<u32>,
+    pub records: Records,
     pub a: u64,
     pub b: u64,
 }
 
 impl PairCase {
+    pub fn new(made: &Made, a: u64, b: u64) -> PairCase {
+        PairCase {
+            counts: made.counts,
+            table: made.table.clone(),
+            records: made.records,
+            a,
+            b,
+        }
+    }
+
     pub fn seen(&self, rules: &Rules) -> Result<u64, u32> {
-        evaluate_by(rules, self.counts, &self.table, self.a, self.b)
+        let (counts, records) = (self.counts, self.records);
+        evaluate_by(rules, counts, &self.table, records, self.a, self.b)
     }
 }
 
-/// Netlists at the limits, each also with one thing wrong, at a few pairs.
+/// Netlists of both kinds at the limits and with one thing wrong, at a few pairs; every byte at all its values.
 pub fn edges() -> Vec<PairCase> {
+    let gates = made_at_limits().into_iter().chain(wrong_netlists());
+    let cells = cells::made_at_limits()
+        .into_iter()
+        .chain(cells::wrong_netlists());
     let mut cases = Vec::new();
-    for made in made_at_limits().into_iter().chain(wrong_netlists()) {
+    for made in gates.chain(cells) {
         for (a, b) in [(0, 0), (1, 2), (u64::MAX, 5), (6, u64::MAX)] {
-            let Made { counts, table } = made.clone();
-            cases.push(PairCase {
-                counts,
-                table,
-                a,
-                b,
-            });
+            cases.push(PairCase::new(&made, a, b));
+        }
+    }
+    for made in cells::all_bytes_shown() {
+        for bits in 0..8 {
+            cases.push(PairCase::new(&made, bits % 4, bits / 4));
         }
     }
     cases
@@ -71,13 +87,14 @@ pub fn wrong_netlists() -> Vec<Made> {
         list.push(Made {
             counts,
             table: vec![9, 9],
+            ..right
         });
     }
     list
 }
 
 /// Counts of the AND netlist with one or two of them changed; some sums come out right only when they wrap.
-fn wrong_counts(right: Counts) -> Vec<Counts> {
+pub fn wrong_counts(right: Counts) -> Vec<Counts> {
     let Counts { m, i, l, o, a } = right;
     let high = u32::MAX;
     let changed = [
@@ -103,41 +120,31 @@ fn wrong_counts(right: Counts) -> Vec<Counts> {
 }
 
 /// A random sound netlist at a random pair of whole words, sometimes with one word changed.
-pub fn random(random: &mut Random) -> PairCase {
+pub fn random(random: &mut Random, records: Records) -> PairCase {
     let inputs = 2 * (1 + random.below(32)) as u32;
     let outputs = 1 + random.below(64) as u32;
-    let gates = random.below(40) as u32;
-    let Made { counts, mut table } = random_sound(random, inputs, outputs, gates);
+    let count = random.below(40) as u32;
+    let mut made = random_records(random, records, inputs, outputs, count);
     if random.one_in(10) {
-        let at = random.below(table.len());
-        table[at] = random.below(2 * counts.m as usize + 4) as u32;
+        let at = random.below(made.table.len());
+        made.table[at] = random.below(2 * made.counts.m as usize + 4) as u32;
     }
     if random.one_in(10) {
-        table.push(random.word() as u32);
+        made.table.push(random.word() as u32);
     }
     let (a, b) = (random.word(), random.word());
-    PairCase {
-        counts,
-        table,
-        a,
-        b,
-    }
+    PairCase::new(&made, a, b)
 }
 
 /// A sound netlist of any size, any O, at any pair; sometimes with words past its table.
-pub fn sound(random: &mut Random) -> PairCase {
-    let Made { counts, mut table } = random_size(random);
+pub fn sound(random: &mut Random, records: Records) -> PairCase {
+    let mut made = random_size(random, records);
     if random.one_in(4) {
-        table.extend(marked_numbers(1 + random.below(6)));
+        made.table.extend(marked_numbers(1 + random.below(6)));
     }
-    let n = counts.n();
+    let n = made.counts.n();
     let (a, b) = (operand(random, n), operand(random, n));
-    PairCase {
-        counts,
-        table,
-        a,
-        b,
-    }
+    PairCase::new(&made, a, b)
 }
 
 /// A word with bits of the operand, with bits from n up, or with both.
@@ -152,16 +159,16 @@ fn operand(random: &mut Random, n: u32) -> u64 {
 }
 
 /// A sound case but for its counts.
-pub fn of_wrong_counts(random: &mut Random) -> PairCase {
-    let mut case = sound(random);
+pub fn of_wrong_counts(random: &mut Random, records: Records) -> PairCase {
+    let mut case = sound(random, records);
     case.counts = wrong::wrong_counts(random, case.counts);
     case
 }
 
 /// A sound case but for its table, which is too short.
-pub fn of_short_table(random: &mut Random) -> PairCase {
-    let mut case = sound(random);
-    let needed = case.counts.table_words() as usize;
+pub fn of_short_table(random: &mut Random, records: Records) -> PairCase {
+    let mut case = sound(random, records);
+    let needed = case.counts.table_words(records) as usize;
     let left = if random.one_in(2) {
         needed - 1
     } else {
@@ -172,18 +179,8 @@ pub fn of_short_table(random: &mut Random) -> PairCase {
 }
 
 /// A sound case but for one word of its table.
-pub fn of_unsound_table(random: &mut Random) -> PairCase {
-    let PairCase {
-        counts,
-        table,
-        a,
-        b,
-    } = sound(random);
-    let Made { counts, table } = wrong::unsound(random, &Made { counts, table });
-    PairCase {
-        counts,
-        table,
-        a,
-        b,
-    }
+pub fn of_unsound_table(random: &mut Random, records: Records) -> PairCase {
+    let mut case = sound(random, records);
+    wrong::make_unsound(random, case.counts, records, &mut case.table);
+    case
 }

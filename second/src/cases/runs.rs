@@ -3,12 +3,13 @@
 use super::judgements::{self, random_order, JudgeCase};
 use super::{marked_numbers, wrong};
 use crate::blocks;
-use crate::judge::Question;
-use crate::netlists::{random_sound, Made};
+use crate::cell_netlists::gates_as_cells;
+use crate::netlists::{random_records, Made};
 use crate::orders;
 use crate::polynomial::Polynomial;
 use crate::random::Random;
 use crate::reading::Reading;
+use crate::records::Records;
 use crate::rules::Rules;
 
 /// Lends more of everything than is asked for, the table too.
@@ -20,10 +21,10 @@ pub fn lend_more(random: &mut Random, case: &mut JudgeCase) {
 }
 
 /// A run with T one below, at and one above the number of terms that it has after one of its steps.
-pub fn around_terms(random: &mut Random) -> Vec<JudgeCase> {
+pub fn around_terms(random: &mut Random, records: Records) -> Vec<JudgeCase> {
     loop {
         let reading = random.pick(&Reading::ALL);
-        let made = judgements::random_netlist(random, reading);
+        let made = judgements::random_netlist(random, records, reading);
         let order = random_order(random, &made);
         let numbers = terms_after_steps(&made, reading, &order);
         if !numbers.is_empty() {
@@ -36,8 +37,7 @@ pub fn around_terms(random: &mut Random) -> Vec<JudgeCase> {
 /// The numbers of terms after the steps, those near the limits of T left out; runs of many terms are cut short.
 fn terms_after_steps(made: &Made, reading: Reading, order: &[u32]) -> Vec<u64> {
     let rules = Rules::of_document();
-    let (counts, table, kind) = (made.counts, &made.table, reading.kind());
-    let question = Question::checked(&rules, counts, table, kind, 600, order);
+    let question = made.question(reading.kind(), 600, order);
     let run = question.expect("a case that is taken").run(&rules);
     let numbers = run.log.iter().map(|step| u64::from(step.terms));
     numbers.filter(|&terms| terms > 128).collect()
@@ -50,26 +50,26 @@ fn around(made: &Made, reading: Reading, terms: u64, order: &[u32]) -> Vec<Judge
 }
 
 /// A start polynomial of 129 terms or more, up to I 64, with T one below, at and one above its number of terms.
-pub fn around_start(random: &mut Random) -> Vec<JudgeCase> {
+pub fn around_start(random: &mut Random, records: Records) -> Vec<JudgeCase> {
     let reading = random.pick(&Reading::ALL);
     let n = 16 + random.below(17) as u32;
-    let gates = random.below(12) as u32;
-    let made = random_sound(random, 2 * n, reading.outputs(n), gates);
+    let count = random.below(12) as u32;
+    let made = random_records(random, records, 2 * n, reading.outputs(n), count);
     let rules = Rules::of_document().judging;
     let start = Polynomial::start(&rules, &made.netlist(), reading);
     around(&made, reading, start.count() as u64, &[])
 }
 
-/// Twelve plain bits with any gates: 144 product terms, and at most 169 at the start.
-pub fn twelve_bits(random: &mut Random, limit: u64) -> JudgeCase {
-    let gates = random.below(40) as u32;
-    let made = random_sound(random, 24, 24, gates);
+/// Twelve plain bits with any records: 144 product terms, and at most 169 at the start.
+pub fn twelve_bits(random: &mut Random, records: Records, limit: u64) -> JudgeCase {
+    let count = random.below(40) as u32;
+    let made = random_records(random, records, 24, 24, count);
     let order = random_order(random, &made);
     JudgeCase::new(&made, Reading::Plain.kind(), limit, order)
 }
 
 /// M where a set takes one word more, and at its most; I 64 among them.
-pub fn at_word_borders(random: &mut Random) -> JudgeCase {
+pub fn at_word_borders(random: &mut Random, records: Records) -> JudgeCase {
     let m = random.pick(&[63, 64, 65, 127, 128, 129, 191, 192, 1_022, 1_023]);
     let (n, limit) = if random.one_in(3) && m > 64 {
         (32, random.pick(&[128, 1_200]))
@@ -77,18 +77,18 @@ pub fn at_word_borders(random: &mut Random) -> JudgeCase {
         (1 + random.below(6) as u32, random.pick(&[128, 200]))
     };
     let reading = random.pick(&Reading::ALL);
-    let made = random_sound(random, 2 * n, reading.outputs(n), m - 2 * n);
+    let made = random_records(random, records, 2 * n, reading.outputs(n), m - 2 * n);
     let mut order = random_order(random, &made);
     order.truncate(60);
     JudgeCase::new(&made, reading.kind(), limit, order)
 }
 
 /// A small netlist under an order of this many steps, repeats among them.
-pub fn long_order(random: &mut Random, steps: usize) -> JudgeCase {
+pub fn long_order(random: &mut Random, records: Records, steps: usize) -> JudgeCase {
     let reading = random.pick(&Reading::ALL);
     let n = 1 + random.below(2) as u32;
-    let gates = 1 + random.below(12) as u32;
-    let made = random_sound(random, 2 * n, reading.outputs(n), gates);
+    let count = 1 + random.below(12) as u32;
+    let made = random_records(random, records, 2 * n, reading.outputs(n), count);
     let order = orders::arbitrary(random, made.counts, steps);
     JudgeCase::new(&made, reading.kind(), 128, order)
 }
@@ -97,7 +97,7 @@ pub fn long_order(random: &mut Random, steps: usize) -> JudgeCase {
 ///
 /// The AND of fourteen inverted inputs has a term for each set of them; that of a_0 b_0 meets the product's and
 /// goes. Each gate variable shown and never replaced is one term more.
-pub fn around_largest_limit() -> Vec<JudgeCase> {
+pub fn around_largest_limit(records: Records) -> Vec<JudgeCase> {
     let inverted: Vec<u32> = (1..=14).map(|input| 2 * input + 1).collect();
     let mut gates = vec![(inverted[1], inverted[0])];
     for (place, &literal) in inverted[2..].iter().enumerate() {
@@ -108,7 +108,11 @@ pub fn around_largest_limit() -> Vec<JudgeCase> {
     let order: Vec<u32> = (15..=all_false / 2).rev().collect();
     let mut cases = Vec::new();
     for kept in [[0, 0], [all_false + 2, 0], [all_false + 2, all_false + 4]] {
-        let made = Made::new(14, &[all_false, kept[0], kept[1], 0, 0, 0, 0], &gates);
+        let gates = Made::new(14, &[all_false, kept[0], kept[1], 0, 0, 0, 0], &gates);
+        let made = match records {
+            Records::Gates => gates,
+            Records::Cells => gates_as_cells(&gates),
+        };
         for limit in [16_382, 16_383, 16_384] {
             let kind = Reading::Truncated.kind();
             cases.push(JudgeCase::new(&made, kind, limit, order.clone()));
@@ -137,13 +141,10 @@ type Wrong = fn(&mut Random, &mut JudgeCase);
 const WRONGS: [Wrong; 10] = [
     |random, case| case.counts = wrong::wrong_counts(random, case.counts),
     |random, case| {
-        let needed = case.counts.table_words() as usize;
+        let needed = case.counts.table_words(case.records) as usize;
         case.table.truncate(random.below(needed));
     },
-    |random, case| {
-        let (counts, table) = (case.counts, case.table.clone());
-        case.table = wrong::unsound(random, &Made { counts, table }).table;
-    },
+    |random, case| wrong::make_unsound(random, case.counts, case.records, &mut case.table),
     |random, case| case.kind = random.pick(&[3, 255, 256, 257, 258, 1 << 16, u32::MAX]),
     // u and s have as many outputs as each other, t has half as many.
     |_, case| case.kind = if case.kind == 2 { 0 } else { 2 },
@@ -167,18 +168,20 @@ const WRONGS: [Wrong; 10] = [
         if random.one_in(2) {
             case.store_words = needed - 1;
         } else {
-            case.scratch_words = 4 * needed - 1 - random.below(3 * needed);
+            // For cells some of these are as many words as gates would need.
+            let made = case.records.most_made();
+            case.scratch_words = made * needed - 1 - random.below((made - 1) * needed);
         }
     },
     |_, case| case.log_records = case.order.len().saturating_sub(1),
 ];
 
 /// Every pair of ways to be refused, and every way alone, each on a case of its own that is taken without them.
-pub fn refusals(random: &mut Random) -> Vec<JudgeCase> {
+pub fn refusals(random: &mut Random, records: Records) -> Vec<JudgeCase> {
     let mut cases = Vec::new();
     for (place, one) in WRONGS.iter().enumerate() {
         for (further, other) in WRONGS[place..].iter().enumerate() {
-            let mut case = judgements::random(random);
+            let mut case = judgements::random(random, records);
             // What is checked later is bent first: it needs counts and table that are still right.
             other(random, &mut case);
             if further > 0 {

@@ -122,28 +122,30 @@ pub fn edges() -> Vec<TextCase> {
 /// Netlists at and just past the limits of the counts.
 pub fn made_at_limits() -> Vec<Made> {
     let mut random = Random::new(1);
-    let sizes = [
-        (2, 1, 1_021),
-        (2, 64, 1_021),
-        (2, 1, 1_022),
-        (64, 64, 959),
-        (64, 32, 0),
-        (66, 33, 2),
-        (66, 64, 0),
-        (0, 1, 0),
-        (0, 1, 2),
-        (1, 1, 1),
-        (3, 2, 1),
-        (2, 63, 1),
-        (2, 64, 1),
-        (2, 65, 1),
-        (2, 0, 1),
-    ];
-    sizes
+    SIZES_AT_LIMITS
         .into_iter()
         .map(|(inputs, outputs, gates)| random_sound(&mut random, inputs, outputs, gates))
         .collect()
 }
+
+/// Inputs, outputs and gates at and just past their limits.
+pub const SIZES_AT_LIMITS: [(u32, u32, u32); 15] = [
+    (2, 1, 1_021),
+    (2, 64, 1_021),
+    (2, 1, 1_022),
+    (64, 64, 959),
+    (64, 32, 0),
+    (66, 33, 2),
+    (66, 64, 0),
+    (0, 1, 0),
+    (0, 1, 2),
+    (1, 1, 1),
+    (3, 2, 1),
+    (2, 63, 1),
+    (2, 64, 1),
+    (2, 65, 1),
+    (2, 0, 1),
+];
 
 /// A small netlist's text with none to two changes, and a table that mostly fits.
 pub fn random(random: &mut Random) -> TextCase {

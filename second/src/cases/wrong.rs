@@ -1,7 +1,7 @@
 //! Counts and tables handed in wrong: one thing at a time, of every kind.
 
-use crate::netlists::Made;
 use crate::random::Random;
+use crate::records::Records;
 use crate::table::Counts;
 
 /// Sound counts with one limit broken; where the limit is that of one count, the sum still holds.
@@ -35,24 +35,22 @@ fn wrapping_sum(m: u32) -> (u32, u32) {
     (i, m.wrapping_sub(i))
 }
 
-/// A sound netlist with one word of its table against the literal rules.
-pub fn unsound(random: &mut Random, right: &Made) -> Made {
-    let mut made = right.clone();
-    let Counts { m, i, o, a, .. } = right.counts;
+/// Sets one word of a sound table against the rules of its outputs and records.
+pub fn make_unsound(random: &mut Random, counts: Counts, records: Records, table: &mut [u32]) {
+    let Counts { m, i, o, a, .. } = counts;
     if a == 0 || random.one_in(3) {
-        let at = random.below(o as usize);
-        made.table[at] = past(random, 2 * m + 1);
-        return made;
+        table[random.below(o as usize)] = past(random, 2 * m + 1);
+        return;
     }
-    let gate = random.below(a as usize);
-    let lhs = 2 * (i + 1 + gate as u32);
-    let at = o as usize + 2 * gate;
-    if random.one_in(2) {
-        made.table[at] = past(random, lhs - 1);
-    } else {
-        made.table[at + 1] = past(random, made.table[at]);
+    let place = random.below(a as usize);
+    let own = i + 1 + place as u32;
+    let at = o as usize + records.words() * place;
+    match (records, random.below(2)) {
+        (Records::Gates, 0) => table[at] = past(random, 2 * own - 1),
+        (Records::Gates, _) => table[at + 1] = past(random, table[at]),
+        (Records::Cells, 0) => table[at] = past(random, 255),
+        (Records::Cells, _) => table[at + 1 + random.below(3)] = past(random, own - 1),
     }
-    made
 }
 
 /// A number above the most: just above, far above, or right again in its low bits.

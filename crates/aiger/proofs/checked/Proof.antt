@@ -7,8 +7,9 @@ use lib.ListN.{drop, length-drop, drop-of-length-le}
 use borrow.Author.Needs.{needs}
 use Rattle.rules.specs.Netlist.{counts-wrong, table-short}
 use Rattle.rules.specs.Reading.{found, header-line, input-line, output-line, gate-line, lines}
+use Rattle.rules.specs.declared.records.RecordKind.the-variants.{Gates}
 use Rattle.lines.specs.Found.{place-scan}
-use Rattle.lines.specs.Sections.{bare, section-line, heading-scan}
+use Rattle.lines.specs.Sections.{bare, section-line, heading-scan, heading-records}
 use Rattle.lines.proofs.Scans.{scanned}
 use Rattle.aiger.proofs.Readings.{header-refused, counts-refused, table-refused, inputs-refused, outputs-refused, gates-refused, end-refused, all-right}
 use Rattle.aiger.proofs.checked.Statement.{statement}
@@ -17,10 +18,13 @@ use Rattle.aiger.proofs.checked.Tie as tie
 -- what each step found, at the place behind it
 headed : (c : tie.After-known-told)
     → let n = c .before .counts .given .0 in
-    header-line (c .before .before .before .before .before .args .text .now)
-    ≡ found (n .0 .m ∷ n .0 .i ∷ n .0 .l ∷ n .0 .o ∷ n .0 .a ∷ []) (drop (n .1 .0) (c .before .before .before .before .before .args .text .now))
-unfolding heading-scan
-headed c = scanned (heading-scan (c .before .before .before .before .before .args .text .now)) (c .before .before .before .header .ensures) (c .before .counts .given .1)
+    let text = c .before .before .before .before .before .args .text .now in
+    (header-line text ≡ found (n .0 .m ∷ n .0 .i ∷ n .0 .l ∷ n .0 .o ∷ n .0 .a ∷ []) (drop (n .1 .0) text)) × (n .0 .records ≡ Gates)
+unfolding heading-scan heading-records
+headed c =
+    let h = c .before .before .before .header .ensures in
+    let e = c .before .counts .given .1 in
+    (scanned (heading-scan (c .before .before .before .before .before .args .text .now)) (h .numbers) e, rw e at (h .records))
 
 right : (c : tie.Else1) → counts-wrong (c .before .before .before .counts .given .0 .0) ≡ false
 right c = sym (c .before .counts-wrong .ensures) ∙ c .if1 .left
@@ -62,7 +66,7 @@ returns : tie.Need-returns
 unfolding heading-scan
 returns c =
     let a = c .before .before .before .before .args in
-    header-refused (a .text .now) (a .words) (scanned (heading-scan (a .text .now)) (c .before .before .header .ensures) (c .enum-told .given .1))
+    header-refused (a .text .now) (a .words) (scanned (heading-scan (a .text .now)) (c .before .before .header .ensures .numbers) (c .enum-told .given .1))
 
 counts-wrong-requires : tie.Need-counts-wrong-requires
 counts-wrong-requires c κs = search needs

@@ -2,9 +2,8 @@
 use native.Mathlib.Omega.{arith}
 use lib.ListN.{length, drop}
 use borrow.Author.Needs.{needs}
-use Rattle.rules.specs.Netlist.{needed}
 use Rattle.aiger.specs.Checked.{RightText}
-use Rattle.aiger.proofs.Passes.{finds, read-refused, read-right}
+use Rattle.aiger.proofs.Passes.{finds, gates-room, read-refused, read-right}
 use Rattle.aiger.proofs.read.Statement.{statement}
 use Rattle.aiger.proofs.read.Tie as tie
 
@@ -25,17 +24,15 @@ enum-known-counts : tie.Need-enum-known-counts
 enum-known-counts c = search needs
 
 store-outputs-requires : tie.Need-store-outputs-requires
-unfolding needed
 store-outputs-requires c κs =
     let r = right (c .before) in
-    (omega (arith, r .room), finds (r .outputs-found))
+    (omega (arith, gates-room r), finds (r .outputs-found))
 
 store-gates-requires : tie.Need-store-gates-requires
-unfolding needed
 store-gates-requires c κs =
     let r = right (c .before .before .before .before .before) in
     let behind = c .before .before .before .store-outputs .ensures (r .outputs) (r .rest) (r .outputs-found) .behind in
-    (omega (arith, r .room, c .before .before .before .store-outputs .kept .1 .1 .1 .0), finds (rw behind at (r .gates-found)))
+    (omega (arith, gates-room r, c .before .before .before .store-outputs .kept .1 .1 .1 .0), finds (rw behind at (r .gates-found)))
 
 returns : tie.Need-returns
 returns c =

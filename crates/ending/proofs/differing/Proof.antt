@@ -16,16 +16,16 @@ cast-a : tie.Need-cast-a
 cast-a c = search needs
 
 shl-a : tie.Need-shl-a
-shl-a c = omega (arith, facts (c .before .before .pre .0 .fitting) .most)
+shl-a c = omega (arith, facts (c .before .before .pre .0 .fitting) .counts .inputs .1)
 
 rem-a : tie.Need-rem-a
-rem-a c = rw (one-shift (c .before .before .args .c .i / 2) (omega (arith, facts (c .before .before .pre .0 .fitting) .most))) (pow-pos _)
+rem-a c = rw (one-shift (c .before .before .args .c .i / 2) (omega (arith, facts (c .before .before .pre .0 .fitting) .counts .inputs .1))) (pow-pos _)
 
 cast-b : tie.Need-cast-b
 cast-b c = search needs
 
 shr-b : tie.Need-shr-b
-shr-b c = omega (arith, facts (c .before .before .pre .0 .fitting) .most)
+shr-b c = omega (arith, facts (c .before .before .pre .0 .fitting) .counts .inputs .1)
 
 shown-requires : tie.Need-shown-requires
 shown-requires c κs = search needs
@@ -33,7 +33,7 @@ shown-requires c κs = search needs
 product-requires : tie.Need-product-requires
 product-requires c κs =
     let f = facts (c .before .before .before .pre .0 .fitting) in
-    (omega (arith, f .least), omega (arith, f .most), c .before .before .before .pre .1)
+    (omega (arith, f .counts .inputs .0), omega (arith, f .counts .inputs .1), c .before .before .before .pre .1)
 
 returns : tie.Need-returns
 unfolding says differs pair-a pair-b width
@@ -41,7 +41,7 @@ returns c =
     let a = c .before .before .before .before .args in
     let f = facts (c .before .before .before .before .pre .0 .fitting) in
     let half : 2 * a .half / 2 ≡ a .half = omega arith in
-    rw (c .before .shown .ensures, c .product .ensures, half, one-shift (a .c .i / 2) (omega (arith, f .most)))
+    rw (c .before .shown .ensures, c .product .ensures, half, one-shift (a .c .i / 2) (omega (arith, f .counts .inputs .1)))
 
 pub differing-spec : {M : Type 1} → statement M
 differing-spec =

@@ -43,7 +43,7 @@ returns c =
     let front = falling-front (a .counts) _ (put .last .1 .0) (put .result) (put .ensures) in
     let judged = c .before .before .judge-unlogged in
     judged .ensures .said
-    ∙ desk-judged (a .kind) (a .counts) (a .table .now) _ (known .0) (known .1) (front .1)
+    ∙ desk-judged (a .kind) (a .counts) (a .table .now) _ (known .0) (known .1) (known .2) (front .1)
 
 pub judged-spec : {M : Type 1} → statement M
 judged-spec =

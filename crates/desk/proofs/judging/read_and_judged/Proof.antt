@@ -3,9 +3,8 @@ use borrow.Author.Needs.{needs}
 use native.Mathlib.Omega.{arith}
 use mathlib.Core.Path.{sym, _∙_}
 use lib.Seq.{length-take-le}
-use Rattle.rules.specs.Netlist.{needed}
 use Rattle.rules.specs.Says.{says}
-use Rattle.desk.proofs.Texts.{Taken, refused-said, read-taken, large-said, judged-said}
+use Rattle.desk.proofs.Texts.{Taken, refused-said, read-taken, words-taken, large-said, judged-said}
 use Rattle.desk.proofs.judging.read_and_judged.Statement.{statement}
 use Rattle.desk.proofs.judging.read_and_judged.Tie as tie
 use Rattle.desk.proofs.judging.read_and_judged.Lts as lts
@@ -49,8 +48,9 @@ add-words : tie.Need-add-words
 add-words c = search needs
 
 array-share-prefix-table : tie.Need-array-share-prefix-table
-unfolding needed
-array-share-prefix-table c = taken (c .before .before .before .before .before) .room
+array-share-prefix-table c =
+    let t = taken (c .before .before .before .before .before) in
+    rw (words-taken _ _ _ t) at (t .room)
 
 slice-aggregate-judged : tie.Need-slice-aggregate-judged
 slice-aggregate-judged c =
@@ -58,7 +58,9 @@ slice-aggregate-judged c =
     sym (length-take-le _ (read .last .1 .0) (array-share-prefix-table (c .before)))
 
 judged-requires : tie.Need-judged-requires
-judged-requires c κs = (omega (arith, taken (c .before .before .before .before .before .before) .right .variables), omega arith)
+judged-requires c κs =
+    let t = taken (c .before .before .before .before .before .before) in
+    (omega (arith, t .right .variables), omega arith, t .gates)
 
 returns-2 : tie.Need-returns-2
 unfolding says
@@ -68,8 +70,11 @@ returns-2 c =
     refused-said (a .kind) _ (a .text .now) (read .last .1 .0) (read .result) (read .ensures) (c .before .number .given .1)
 
 returns-3 : tie.Need-returns-3
-unfolding needed
-returns-3 c = c .judged .ensures ∙ judged-said _ _ _ _ (taken (c .before .before .before .before .before .before .before)) (omega arith)
+returns-3 c =
+    let t = taken (c .before .before .before .before .before .before .before) in
+    let a = c .before .before .before .before .before .before .before .before .before .before .before .before .before .args in
+    let read = c .before .before .before .before .before .before .before .before .before .before .read in
+    c .judged .ensures ∙ rw (words-taken (a .text .now) (read .last .1 .0) (c .before .before .before .before .before .before .before .counts .given .0 .0) t) at (judged-said (a .kind) (a .text .now) (read .last .1 .0) (c .before .before .before .before .before .before .before .counts .given .0 .0) t (omega arith))
 
 pub read-and-judged-spec : {M : Type 1} → statement M
 read-and-judged-spec =

@@ -1,6 +1,7 @@
 -- `hraskell_evaluate` gives a host what the evaluator says. Assumes nothing.
 use borrow.Author.Needs.{needs}
 use native.Mathlib.Omega.{arith}
+use Rattle.exports.specs.Exported.{named}
 use Rattle.exports.proofs.Givings.{evaluate-short, pair-most, evaluate-refused, evaluate-given}
 use Rattle.exports.proofs.evaluating.hraskell_evaluate.Statement.{statement}
 use Rattle.exports.proofs.evaluating.hraskell_evaluate.Tie as tie
@@ -8,7 +9,10 @@ use Rattle.exports.proofs.evaluating.hraskell_evaluate.Tie as tie
 returns : tie.Need-returns
 returns c =
     let a = c .before .before .before .args in
-    evaluate-short (record { m = a .m; i = a .i; l = a .l; o = a .o; a = a .a }) (a .table .now) (a .x) (a .y) (a .word .now) (c .if1 .taken)
+    evaluate-short (named (a .m) (a .i) (a .l) (a .o) (a .a) (a .cells)) (a .table .now) (a .x) (a .y) (a .word .now) (c .if1 .taken)
+
+counts-requires : tie.Need-counts-requires
+counts-requires c κs = search needs
 
 evaluate-requires : tie.Need-evaluate-requires
 evaluate-requires c κs = search needs
@@ -18,7 +22,7 @@ enum-known-number c = search needs
 
 add-result : tie.Need-add-result
 add-result c =
-    let a = c .before .before .before .before .before .before .before .args in
+    let a = c .before .before .before .before .before .before .before .before .args in
     let most = pair-most _ _ _ _ (a .word .now) _ (c .before .before .before .evaluate .ensures) _ (c .before .number .given .1) in
     omega arith
 
@@ -30,22 +34,25 @@ slice-write-word c = search needs
 
 returns-2 : tie.Need-returns-2
 returns-2 c =
-    let a = c .before .before .before .before .before .before .before .args in
-    evaluate-refused _ _ _ _ (a .word .now) _ (c .before .before .before .evaluate .ensures) _ (c .before .before .before .before .if1 .left) (c .before .number .given .1)
+    let a = c .before .before .before .before .before .before .before .before .args in
+    rw (c .before .before .before .before .counts .ensures) at
+    (evaluate-refused _ _ _ _ (a .word .now) _ (c .before .before .before .evaluate .ensures) _ (c .before .before .before .before .before .if1 .left) (c .before .number .given .1))
 
 same-length : tie.Need-same-length
 same-length c = search needs
 
 returns-3 : tie.Need-returns-3
 returns-3 c =
-    let a = c .before .before .before .before .before .before .before .args in
-    evaluate-given _ _ _ _ (a .word .now) _ (c .before .before .before .evaluate .ensures) _ (c .before .before .before .before .if1 .left) (c .before .shown .given .1)
+    let a = c .before .before .before .before .before .before .before .before .args in
+    rw (c .before .before .before .before .counts .ensures) at
+    (evaluate-given _ _ _ _ (a .word .now) _ (c .before .before .before .evaluate .ensures) _ (c .before .before .before .before .before .if1 .left) (c .before .shown .given .1))
 
 pub hraskell-evaluate-spec : {M : Type 1} → statement M
 hraskell-evaluate-spec =
     tie.close
     (tie.spec
     returns
+    counts-requires
     evaluate-requires
     enum-known-number
     add-result

@@ -11,23 +11,23 @@ use Rattle.gates.proofs.masks.mask_table.Lts as lts
 use Rattle.gates.proofs.masks.mask.Reads as mask-reads
 
 abbrev Inv-loop : tie.InvT-loop
-Inv-loop masks₀ w v x y j₀ masks j =
-    (j ≤ 4) × (length masks ≡ length masks₀) × Making w v x y j masks × (drop (4 * w) masks ≡ drop (4 * w) masks₀)
+Inv-loop masks₀ streams w v q j₀ masks j =
+    (j ≤ streams) × (length masks ≡ length masks₀) × Making w v q streams j masks × (drop (streams * w) masks ≡ drop (streams * w) masks₀)
 
 abbrev μ-loop : tie.MeasureT-loop
-μ-loop masks₀ w v x y j₀ masks j =
-    4 - j
+μ-loop masks₀ streams w v q j₀ masks j =
+    streams - j
 
 loop-holds : tie.Need-loop-holds Inv-loop μ-loop
 loop-holds c =
-    (omega arith, refl, ((λ i l. absurd (omega arith)), λ i l d. c .before .pre .4 i d), refl)
+    (omega arith, refl, ((λ i l. absurd (omega arith)), λ i l d. c .before .pre .7 i d), refl)
 
 mask-requires : tie.Need-mask-requires Inv-loop μ-loop
 mask-requires c κs =
     let a = c .before .before .before .before .args in
     let p = c .before .before .before .before .pre in
     let l = c .before .before .loop in
-    (rw (l .inv .1) (row-in (l .j) 4 (a .w) (length (a .masks .now)) (omega arith) (p .0)), p .1, p .2, p .3, omega arith, l .inv .2 .1 (l .j) (omega arith) (omega arith))
+    (rw (l .inv .1) (row-in (l .j) (a .streams) (a .w) (length (a .masks .now)) (omega arith) (p .1)), p .3, p .4, p .5, p .6, omega arith, l .inv .2 .1 (l .j) (omega arith) (omega arith))
 
 add-j : tie.Need-add-j Inv-loop μ-loop
 add-j c = omega arith
@@ -40,7 +40,7 @@ loop-again c =
     let a = c .before .before .before .before .before .before .before .args in
     let l = c .before .before .before .before .before .loop in
     let m = c .before .before .mask in
-    (omega arith, m .kept .0 ∙ l .inv .1, making-more (a .w) (a .v) (a .x) (a .y) (l .j) (l .masks) (m .last .0) (l .inv .2) (m .ensures), m .ensures .behind (4 * a .w) (row-in (l .j) 4 (a .w) (4 * a .w) (omega arith) (omega arith)) ∙ l .inv .3)
+    (omega arith, m .kept .0 ∙ l .inv .1, making-more (a .w) (a .v) (a .q) (a .streams) (l .j) (l .masks) (m .last .0) (l .inv .2) (m .ensures), m .ensures .behind (a .streams * a .w) (row-in (l .j) (a .streams) (a .w) (a .streams * a .w) (omega arith) (omega arith)) ∙ l .inv .3)
 
 same-length : tie.Need-same-length Inv-loop μ-loop
 same-length c =
@@ -50,7 +50,7 @@ returns : tie.Need-returns Inv-loop μ-loop
 returns c =
     let a = c .before .before .before .args in
     let l = c .before .loop in
-    let e : l .j ≡ 4 = omega arith in
+    let e : l .j ≡ a .streams = omega arith in
     ((λ i d. l .inv .2 .0 i (omega arith)), l .inv .3)
 
 pub mask-table-spec : {M : Type 1} → statement M

@@ -1,4 +1,4 @@
--- `take_turn` is the step of the engine, by the literals that the table has for the gate. Assumes nothing.
+-- `take_turn` is the step of the engine, by the record that the table has for the gate. Assumes nothing.
 use mathlib.Core.Path.{refl}
 use borrow.Author.Needs.{needs}
 use Rattle.rules.specs.Judging.{set-width}
@@ -13,16 +13,13 @@ add-w c = search needs
 cast-w : tie.Need-cast-w
 cast-w c = search needs
 
-rhs0-requires : tie.Need-rhs0-requires
-rhs0-requires c κs = search needs
-
-rhs1-requires : tie.Need-rhs1-requires
-rhs1-requires c κs = search needs
+record-at-requires : tie.Need-record-at-requires
+record-at-requires c κs = search needs
 
 step-requires : tie.Need-step-requires
 step-requires c κs =
-    let p = c .before .before .before .before .before .before .before .before .pre in
-    ready (p .0) (p .1) (p .2) (c .before .before .before .rhs0 .ensures) (c .before .before .rhs1 .ensures)
+    let p = c .before .before .before .before .before .before .before .pre in
+    ready (p .0) (p .1) (p .2) (c .before .before .record-at .ensures)
 
 same-length : tie.Need-same-length
 same-length c = search needs
@@ -34,10 +31,10 @@ returns : tie.Need-returns
 unfolding set-width
 returns c =
     let b = c .before .before .before .before .before in
-    let x = b .before .before .before .before in
+    let x = b .before .before .before in
     let a = x .before .before .before .before .before .args in
     let p = decoded (set-width (a .c)) (a .held) (a .store .now) in
-    let s = stepped-to (a .c) (a .table .now) (a .v) p (x .rhs0 .ensures) (b .before .before .before .rhs1 .ensures) (b .step .ensures) in
+    let s = stepped-to (a .c) (a .table .now) (a .v) p (x .record-at .ensures) (b .step .ensures) in
     turned-full s _ refl (c .if1 .taken) refl refl
 
 same-length-3 : tie.Need-same-length-3
@@ -50,10 +47,10 @@ returns-2 : tie.Need-returns-2
 unfolding set-width
 returns-2 c =
     let b = c .before .before .before .before .before in
-    let x = b .before .before .before .before in
+    let x = b .before .before .before in
     let a = x .before .before .before .before .before .args in
     let p = decoded (set-width (a .c)) (a .held) (a .store .now) in
-    let s = stepped-to (a .c) (a .table .now) (a .v) p (x .rhs0 .ensures) (b .before .before .before .rhs1 .ensures) (b .step .ensures) in
+    let s = stepped-to (a .c) (a .table .now) (a .v) p (x .record-at .ensures) (b .step .ensures) in
     turned-fits s _ refl (c .if1 .left) refl refl
 
 pub take-turn-spec : {M : Type 1} → statement M
@@ -62,8 +59,7 @@ take-turn-spec =
     (tie.spec
     add-w
     cast-w
-    rhs0-requires
-    rhs1-requires
+    record-at-requires
     step-requires
     same-length
     same-length-2

@@ -13,11 +13,11 @@ use Rattle.merge.proofs.streams.begin.Lts as lts
 use Rattle.merge.proofs.streams.next.Reads as next-reads
 
 abbrev Inv-loop : tie.InvT-loop
-Inv-loop store n w g signs at₀ j₀ at j =
-    (j ≤ length at₀) × (length at ≡ length at₀) × ((i : ℕ) → i < j → Next g signs i (decoded w n store) 0 (getD at i 0))
+Inv-loop store n w g multipliers at₀ j₀ at j =
+    (j ≤ length at₀) × (length at ≡ length at₀) × ((i : ℕ) → i < j → Next g multipliers i (decoded w n store) 0 (getD at i 0))
 
 abbrev μ-loop : tie.MeasureT-loop
-μ-loop store n w g signs at₀ j₀ at j =
+μ-loop store n w g multipliers at₀ j₀ at j =
     length at₀ - j
 
 loop-holds : tie.Need-loop-holds Inv-loop μ-loop
@@ -26,7 +26,7 @@ loop-holds c =
 
 next-requires : tie.Need-next-requires Inv-loop μ-loop
 next-requires c κs =
-    (c .before .before .before .before .before .pre .0, omega arith, omega arith)
+    (c .before .before .before .before .pre .0, omega arith, omega arith)
 
 mul-at : tie.Need-mul-at Inv-loop μ-loop
 mul-at c = omega arith
@@ -42,9 +42,9 @@ loop-less c = omega arith
 
 loop-again : tie.Need-loop-again Inv-loop μ-loop
 loop-again c =
-    let a = c .before .before .before .before .before .before .args in
+    let a = c .before .before .before .before .before .args in
     let l = c .before .before .loop in
-    (omega arith, simp length-set (l .inv .1), begun-more (a .g) (a .signs .now) (decoded (a .w) (a .n) (a .store .now)) (l .at) (l .j) (c .next .result) (omega arith) (l .inv .2) (c .next .ensures))
+    (omega arith, simp length-set (l .inv .1), begun-more (a .g) (a .multipliers .now) (decoded (a .w) (a .n) (a .store .now)) (l .at) (l .j) (c .next .result) (omega arith) (l .inv .2) (c .next .ensures))
 
 same-length : tie.Need-same-length Inv-loop μ-loop
 same-length c = omega arith

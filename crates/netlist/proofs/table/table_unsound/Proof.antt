@@ -7,12 +7,12 @@ use Rattle.netlist.proofs.table.table_unsound.Tie as tie
 outputs-sound-requires : tie.Need-outputs-sound-requires
 outputs-sound-requires c κs = search needs
 
-gates-sound-requires : tie.Need-gates-sound-requires
-gates-sound-requires c κs = search needs
+records-sound-requires : tie.Need-records-sound-requires
+records-sound-requires c κs = search needs
 
 returns : tie.Need-returns
 unfolding table-unsound table-sound
-returns c = rw (c .before .outputs-sound .ensures, c .gates-sound .ensures)
+returns c = rw (c .before .outputs-sound .ensures, c .records-sound .ensures)
 
 pub table-unsound-spec : {M : Type 1} → statement M
-table-unsound-spec = tie.close (tie.spec outputs-sound-requires gates-sound-requires returns)
+table-unsound-spec = tie.close (tie.spec outputs-sound-requires records-sound-requires returns)

@@ -24,7 +24,7 @@ loop-holds c =
     let s = c .before .before .before .before .before .before .before in
     let a = s .args in
     let g = c .before .before .put-inputs in
-    let e = values-start (a .c) (a .table .now) (a .a) (a .b) (g .last .1 .1 .1 .0) (facts (s .pre .0 .fitting) .even) (g .ensures) in
+    let e = values-start (a .c) (a .table .now) (a .a) (a .b) (g .last .1 .1 .1 .0) (facts (s .pre .0 .fitting) .counts .even) (g .ensures) in
     (omega arith, refl, e)
 
 add-put-gate : tie.Need-add-put-gate Inv-loop μ-loop

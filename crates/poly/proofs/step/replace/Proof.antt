@@ -41,7 +41,7 @@ part-replacements-end c = search needs
 replacements-requires : tie.Need-replacements-requires
 replacements-requires c κs =
     let a = c .before .before .before .before .args in
-    (front-fit (a .store .now) (a .n) (a .w) (a .g) (a .x) (a .y) (a .end) (a .scratch .now) (a .limit) (c .before .before .before .before .pre), part-room (a .store .now) (a .n) (a .w) (a .g) (a .x) (a .y) (a .end) (a .scratch .now) (a .limit) (c .before .before .before .before .pre))
+    (front-fit (a .store .now) (a .n) (a .w) (a .g) (a .r) (a .row .now) (a .end) (a .scratch .now) (a .limit) (c .before .before .before .before .pre), part-room (a .store .now) (a .n) (a .w) (a .g) (a .r) (a .row .now) (a .end) (a .scratch .now) (a .limit) (c .before .before .before .before .pre))
 
 add-result : tie.Need-add-result
 add-result c = search needs
@@ -56,33 +56,33 @@ returns : tie.Need-returns
 returns c =
     let a = c .before .before .before .before .before .before .before .before .args in
     let m = c .before .before .before .replacements in
-    step-full (a .store .now) (a .n) (a .w) (a .g) (a .x) (a .y) (a .end) (a .scratch .now) (a .limit) (c .before .before .before .before .before .before .before .before .pre) (m .result) (m .last .1 .1 .1 .1 .1 .1 .0) _ (m .kept .1 .1 .1 .1 .1 .1 .0) refl (m .ensures .0) (m .ensures .1) (m .ensures .2) (c .if1 .taken)
+    step-full (a .store .now) (a .n) (a .w) (a .g) (a .r) (a .row .now) (a .end) (a .scratch .now) (a .limit) (c .before .before .before .before .before .before .before .before .pre) (m .result) (m .last .1 .1 .1 .1 .1 .1 .0) _ (m .kept .1 .1 .1 .1 .1 .1 .0) refl (m .ensures .0) (m .ensures .1) (m .ensures .2) (c .if1 .taken)
 
 put-together-requires : tie.Need-put-together-requires
 put-together-requires c κs =
     let a = c .before .before .before .before .before .before .before .before .before .before .args in
     let m = c .before .before .before .before .before .replacements in
-    both (a .store .now) (a .n) (a .w) (a .g) (a .x) (a .y) (a .end) (a .scratch .now) (a .limit) (c .before .before .before .before .before .before .before .before .before .before .pre) (m .result) (m .last .1 .1 .1 .1 .1 .1 .0) _ (m .kept .1 .1 .1 .1 .1 .1 .0) refl (m .ensures .0) (m .ensures .1) (m .ensures .2) (c .before .before .if1 .left)
+    both (a .store .now) (a .n) (a .w) (a .g) (a .r) (a .row .now) (a .end) (a .scratch .now) (a .limit) (c .before .before .before .before .before .before .before .before .before .before .pre) (m .result) (m .last .1 .1 .1 .1 .1 .1 .0) _ (m .kept .1 .1 .1 .1 .1 .1 .0) refl (m .ensures .0) (m .ensures .1) (m .ensures .2) (c .before .before .if1 .left)
 
 mul-clear : tie.Need-mul-clear
 mul-clear c =
     let a = c .before .before .before .before .before .before .before .before .before .before .before .before .before .before .before .before .args in
     let m = c .before .before .before .before .before .before .before .before .before .before .before .replacements in
-    let q = made-room (a .store .now) (a .n) (a .w) (a .g) (a .x) (a .y) (a .end) (a .scratch .now) (a .limit) (c .before .before .before .before .before .before .before .before .before .before .before .before .before .before .before .before .pre) (m .result) (m .last .1 .1 .1 .1 .1 .1 .0) _ (m .kept .1 .1 .1 .1 .1 .1 .0) refl (m .ensures .0) (m .ensures .1) (m .ensures .2) (c .before .before .before .before .before .before .before .before .if1 .left) in
+    let q = made-room (a .store .now) (a .n) (a .w) (a .g) (a .r) (a .row .now) (a .end) (a .scratch .now) (a .limit) (c .before .before .before .before .before .before .before .before .before .before .before .before .before .before .before .before .pre) (m .result) (m .last .1 .1 .1 .1 .1 .1 .0) _ (m .kept .1 .1 .1 .1 .1 .1 .0) refl (m .ensures .0) (m .ensures .1) (m .ensures .2) (c .before .before .before .before .before .before .before .before .if1 .left) in
     omega (arith, q, lent (c .before .before .before .before .before .before .before .before .before .before .before .before))
 
 add-clear : tie.Need-add-clear
 add-clear c =
     let a = c .before .before .before .before .before .before .before .before .before .before .before .before .before .before .before .before .args in
     let m = c .before .before .before .before .before .before .before .before .before .before .before .replacements in
-    let q = made-room (a .store .now) (a .n) (a .w) (a .g) (a .x) (a .y) (a .end) (a .scratch .now) (a .limit) (c .before .before .before .before .before .before .before .before .before .before .before .before .before .before .before .before .pre) (m .result) (m .last .1 .1 .1 .1 .1 .1 .0) _ (m .kept .1 .1 .1 .1 .1 .1 .0) refl (m .ensures .0) (m .ensures .1) (m .ensures .2) (c .before .before .before .before .before .before .before .before .if1 .left) in
+    let q = made-room (a .store .now) (a .n) (a .w) (a .g) (a .r) (a .row .now) (a .end) (a .scratch .now) (a .limit) (c .before .before .before .before .before .before .before .before .before .before .before .before .before .before .before .before .pre) (m .result) (m .last .1 .1 .1 .1 .1 .1 .0) _ (m .kept .1 .1 .1 .1 .1 .1 .0) refl (m .ensures .0) (m .ensures .1) (m .ensures .2) (c .before .before .before .before .before .before .before .before .if1 .left) in
     omega (arith, q, lent (c .before .before .before .before .before .before .before .before .before .before .before .before))
 
 clear-requires : tie.Need-clear-requires
 clear-requires c κs =
     let a = c .before .before .before .before .before .before .before .before .before .before .before .before .before .before .before .before .args in
     let m = c .before .before .before .before .before .before .before .before .before .before .before .replacements in
-    (omega arith, rw (c .before .before .before .before .before .put-together .kept .1 .1 .0, same-room (a .store .now) (a .n) (a .w) (a .g) (a .x) (a .y) (a .end) (a .scratch .now) (a .limit) (c .before .before .before .before .before .before .before .before .before .before .before .before .before .before .before .before .pre) (m .result) (m .last .1 .1 .1 .1 .1 .1 .0) _ (m .kept .1 .1 .1 .1 .1 .1 .0) refl (m .ensures .0) (m .ensures .1) (m .ensures .2)) (made-room (a .store .now) (a .n) (a .w) (a .g) (a .x) (a .y) (a .end) (a .scratch .now) (a .limit) (c .before .before .before .before .before .before .before .before .before .before .before .before .before .before .before .before .pre) (m .result) (m .last .1 .1 .1 .1 .1 .1 .0) _ (m .kept .1 .1 .1 .1 .1 .1 .0) refl (m .ensures .0) (m .ensures .1) (m .ensures .2) (c .before .before .before .before .before .before .before .before .if1 .left)))
+    (omega arith, rw (c .before .before .before .before .before .put-together .kept .1 .1 .0, same-room (a .store .now) (a .n) (a .w) (a .g) (a .r) (a .row .now) (a .end) (a .scratch .now) (a .limit) (c .before .before .before .before .before .before .before .before .before .before .before .before .before .before .before .before .pre) (m .result) (m .last .1 .1 .1 .1 .1 .1 .0) _ (m .kept .1 .1 .1 .1 .1 .1 .0) refl (m .ensures .0) (m .ensures .1) (m .ensures .2)) (made-room (a .store .now) (a .n) (a .w) (a .g) (a .r) (a .row .now) (a .end) (a .scratch .now) (a .limit) (c .before .before .before .before .before .before .before .before .before .before .before .before .before .before .before .before .pre) (m .result) (m .last .1 .1 .1 .1 .1 .1 .0) _ (m .kept .1 .1 .1 .1 .1 .1 .0) refl (m .ensures .0) (m .ensures .1) (m .ensures .2) (c .before .before .before .before .before .before .before .before .if1 .left)))
 
 same-length-3 : tie.Need-same-length-3
 same-length-3 c = search needs
@@ -95,7 +95,7 @@ returns-2 c =
     let a = c .before .before .before .before .before .before .before .before .before .before .before .before .before .before .before .before .before .before .before .args in
     let m = c .before .before .before .before .before .before .before .before .before .before .before .before .before .before .replacements in
     let t = c .before .before .before .before .before .before .before .before .put-together in
-    step-fits (a .store .now) (a .n) (a .w) (a .g) (a .x) (a .y) (a .end) (a .scratch .now) (a .limit) (c .before .before .before .before .before .before .before .before .before .before .before .before .before .before .before .before .before .before .before .pre) (m .result) (m .last .1 .1 .1 .1 .1 .1 .0) _ (m .kept .1 .1 .1 .1 .1 .1 .0) refl (m .ensures .0) (m .ensures .1) (m .ensures .2) (c .before .before .before .before .before .before .before .before .before .before .before .if1 .left) (t .result) (t .last .0) (t .last .1 .1 .0) (c .before .before .clear .last .0) (t .ensures) (c .before .before .clear .ensures)
+    step-fits (a .store .now) (a .n) (a .w) (a .g) (a .r) (a .row .now) (a .end) (a .scratch .now) (a .limit) (c .before .before .before .before .before .before .before .before .before .before .before .before .before .before .before .before .before .before .before .pre) (m .result) (m .last .1 .1 .1 .1 .1 .1 .0) _ (m .kept .1 .1 .1 .1 .1 .1 .0) refl (m .ensures .0) (m .ensures .1) (m .ensures .2) (c .before .before .before .before .before .before .before .before .before .before .before .if1 .left) (t .result) (t .last .0) (t .last .1 .1 .0) (c .before .before .clear .last .0) (t .ensures) (c .before .before .clear .ensures)
 
 pub replace-spec : {M : Type 1} → statement M
 replace-spec =

@@ -1,13 +1,14 @@
--- v is in no term: nothing changes. Else the step of the literals brought apart is the same step.
+-- v is in no term: nothing changes. Else its record is brought apart, and then the step is made.
+use mathlib.Core.Path.{refl}
 use lib.ListN.{length}
 use Rattle.words.proofs.Stored.{stride-le}
-use Rattle.poly.proofs.Settled.{stepped-same, used-asks, to-replace, same-step}
+use Rattle.poly.proofs.Settled.{stepped-same, used-asks, to-replace}
 use borrow.Author.Needs.{needs}
 use Rattle.poly.proofs.step.step.Statement.{statement}
 use Rattle.poly.proofs.step.step.Tie as tie
 use Rattle.poly.proofs.step.step.Reads as reads
 use Rattle.poly.proofs.step.step.Lts as lts
-use Rattle.gates.proofs.literals.apart.Reads as apart-reads
+use Rattle.gates.proofs.apart.apart.Reads as apart-reads
 use Rattle.poly.proofs.step.replace.Reads as replace-reads
 use Rattle.weave.proofs.seeking.last_holding.Reads as last-holding-reads
 use Rattle.weave.proofs.seeking.words_used.Reads as words-used-reads
@@ -24,26 +25,30 @@ same-length c = search needs
 returns : tie.Need-returns
 returns c =
     let a = c .before .before .before .before .before .args in
-    stepped-same (a .w) (a .l) (a .v) (a .x) (a .y) (a .limit) (a .held) (a .store .now) (a .scratch .now) (c .before .before .before .before .before .pre) (c .before .last-holding .result) (c .before .last-holding .ensures) (c .if1 .taken)
+    stepped-same (a .w) (a .l) (a .v) (a .r) (a .limit) (a .held) (a .store .now) (a .scratch .now) (c .before .before .before .before .before .pre) (c .before .last-holding .result) (c .before .last-holding .ensures) (c .if1 .taken)
+
+slice-aggregate-apart : tie.Need-slice-aggregate-apart
+slice-aggregate-apart c = search needs
 
 apart-requires : tie.Need-apart-requires
-apart-requires c κs = search needs
+apart-requires c κs = (refl, c .before .before .before .before .before .before .pre .byte)
 
 words-used-requires : tie.Need-words-used-requires
 words-used-requires c κs =
-    let a = c .before .before .before .before .before .before .before .args in
-    used-asks (a .w) (a .l) (a .v) (a .x) (a .y) (a .limit) (a .held) (c .before .before .before .last-holding .result) (a .store .now) (a .scratch .now) (c .before .before .before .before .before .before .before .pre) (c .before .before .before .last-holding .ensures) (c .before .before .if1 .left)
+    let a = c .before .before .before .before .before .before .before .before .before .args in
+    let o = c .before .before .before .before .before .last-holding in
+    used-asks (a .w) (a .l) (a .v) (a .r) (a .limit) (a .held) (o .result) (a .store .now) (a .scratch .now) (c .before .before .before .before .before .before .before .before .before .pre) (o .ensures) (c .before .before .before .before .if1 .left)
 
-cast-t23 : tie.Need-cast-t23
-cast-t23 c = search needs
-
-cast-t25 : tie.Need-cast-t25
-cast-t25 c = search needs
+slice-aggregate-replace : tie.Need-slice-aggregate-replace
+slice-aggregate-replace c = search needs
 
 replace-requires : tie.Need-replace-requires
 replace-requires c κs =
-    let a = c .before .before .before .before .before .before .before .before .before .before .args in
-    to-replace (a .w) (a .l) (a .v) (a .x) (a .y) (a .limit) (a .held) (c .before .before .before .before .before .before .last-holding .result) (a .store .now) (a .scratch .now) (c .before .before .before .before .before .before .before .before .before .before .pre) (c .before .before .before .before .before .before .last-holding .ensures) (c .before .before .before .before .before .if1 .left) (c .before .before .before .before .apart .result) (c .before .before .before .before .apart .ensures) (c .before .before .words-used .result) (c .before .before .words-used .ensures)
+    let a = c .before .before .before .before .before .before .before .before .before .before .before .before .before .args in
+    let o = c .before .before .before .before .before .before .before .before .before .last-holding in
+    let q = c .before .before .before .before .before .before .apart in
+    let u = c .before .before .before .words-used in
+    to-replace (a .w) (a .l) (a .v) (a .r) (a .limit) (a .held) (o .result) (a .store .now) (a .scratch .now) (c .before .before .before .before .before .before .before .before .before .before .before .before .before .pre) (o .ensures) (c .before .before .before .before .before .before .before .before .if1 .left) (q .result) (q .last .1 .0) (q .ensures) (q .kept .1 .0) (u .result) (u .ensures)
 
 same-length-2 : tie.Need-same-length-2
 same-length-2 c = search needs
@@ -52,9 +57,7 @@ same-length-3 : tie.Need-same-length-3
 same-length-3 c = search needs
 
 returns-2 : tie.Need-returns-2
-returns-2 c =
-    let a = c .before .before .before .before .before .before .before .before .before .before .before .before .before .before .before .args in
-    rw (same-step (a .w) (a .l) (a .v) (a .x) (a .y) (a .limit) (a .held) (c .before .before .before .before .before .before .before .before .before .before .before .last-holding .result) (a .store .now) (a .scratch .now) (c .before .before .before .before .before .before .before .before .before .before .before .before .before .before .before .pre) (c .before .before .before .before .before .before .before .before .before .before .before .last-holding .ensures) (c .before .before .before .before .before .before .before .before .before .before .if1 .left) (c .before .before .before .before .before .before .before .before .before .apart .result) (c .before .before .before .before .before .before .before .before .before .apart .ensures) (c .before .before .before .before .before .before .before .words-used .result) (c .before .before .before .before .before .before .before .words-used .ensures)) at (c .before .before .before .before .replace .ensures)
+returns-2 c = search needs
 
 pub step-spec : {M : Type 1} → statement M
 step-spec =
@@ -63,10 +66,10 @@ step-spec =
     last-holding-requires
     same-length
     returns
+    slice-aggregate-apart
     apart-requires
     words-used-requires
-    cast-t23
-    cast-t25
+    slice-aggregate-replace
     replace-requires
     same-length-2
     same-length-3

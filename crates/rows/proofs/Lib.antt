@@ -1,0 +1,3 @@
+-- Why the table is right, and what writing a row comes to.
+pub mod Tested
+pub mod Writing

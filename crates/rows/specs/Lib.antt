@@ -1,0 +1,2 @@
+-- What the functions of rows ensure.
+pub mod Rows

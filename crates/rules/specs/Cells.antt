@@ -37,7 +37,7 @@ unfoldable pub below : ℤ → ℕ
 below (pos k) = 0
 below (negsuc k) = suc k
 
--- a coefficient times a whole number, modulo m: below 0 that many times m less it
+-- a coefficient times a whole number, not yet reduced modulo m: a number below 0 counts that many times m less the coefficient
 unfoldable pub scaled : ℕ → ℤ → ℕ → ℕ
 scaled m z c = above z * c + below z * (m - c)
 

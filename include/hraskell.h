@@ -51,15 +51,21 @@ extern "C" {
 #define HRASKELL_REFUSED_GATE_LINE 106u   /* gate line wrong */
 #define HRASKELL_REFUSED_BYTES_AFTER 107u /* bytes after the last gate line */
 #define HRASKELL_REFUSED_UNSOUND 108u     /* an output or record of the table breaks its rules */
-#define HRASKELL_REFUSED_KIND 109u        /* kind unknown, or O is not l */
+#define HRASKELL_REFUSED_KIND 109u        /* kind unknown, O is not l, or I no multiple of 4 for m and ms */
 #define HRASKELL_REFUSED_LIMIT 110u       /* T outside 128..16,384 */
 #define HRASKELL_REFUSED_ORDER 111u       /* order too long, or names something that is no gate */
 #define HRASKELL_REFUSED_LENT_SHORT 112u  /* a buffer to be written is too short */
 
-/* Kinds. */
-#define HRASKELL_PLAIN 0u     /* u: 2n outputs, both operands plain */
-#define HRASKELL_SIGNED 1u    /* s: 2n outputs, both operands two's complement */
-#define HRASKELL_TRUNCATED 2u /* t: n outputs, the product modulo 2^n */
+/*
+ * Kinds. In the first three inputs 1 to n are the bits of a and the others
+ * those of b, n = I/2. In the last two n = I/4: inputs 1 to n are the bits of
+ * a, n + 1 to 2n those of b, and the other 2n those of c. Lowest bit first.
+ */
+#define HRASKELL_PLAIN 0u               /* u: 2n outputs, both operands plain */
+#define HRASKELL_SIGNED 1u              /* s: 2n outputs, both operands two's complement */
+#define HRASKELL_TRUNCATED 2u           /* t: n outputs, the product modulo 2^n */
+#define HRASKELL_MULTIPLY_ADD 3u        /* m: 2n outputs, ab + c modulo 2^(2n), a and b plain */
+#define HRASKELL_MULTIPLY_ADD_SIGNED 4u /* ms: the same, a and b two's complement */
 
 /* Kinds of record. Every number but 0 names cells. */
 #define HRASKELL_GATES 0u /* AND gates */
@@ -69,7 +75,7 @@ extern "C" {
 #define HRASKELL_TABLE_WORDS_MOST 2106u      /* no netlist of gates needs a longer table */
 #define HRASKELL_CELL_TABLE_WORDS_MOST 4148u /* no netlist of cells needs a longer table */
 #define HRASKELL_COUNT_WORDS 5u
-#define HRASKELL_ANSWER_WORDS 6u
+#define HRASKELL_ANSWER_WORDS 7u
 #define HRASKELL_TERMS_LEAST 128u
 #define HRASKELL_TERMS_MOST 16384u
 #define HRASKELL_STEPS_MOST 4096u
@@ -98,12 +104,13 @@ uint32_t hraskell_read(
     uint32_t *counts, size_t counts_length);
 
 /*
- * Evaluates a netlist at one operand pair.
+ * Evaluates a netlist at one choice of its operands.
  *
  *   m, i, l, o, a  the counts M, I, L, O, A
  *   table          lent for reading: at least O + 2A words, or O + 4A for cells, else refused 103
  *   cells          0 for a table of AND gates, any other number for one of lookup cells
- *   x, y           the operands a and b; bits from n = I/2 up are treated as absent
+ *   x, y           the operands a and b, or for a block of kind m or ms a + 2^n b and c: the inputs
+ *                  1 to I/2, and those after them; bits from I/2 up are treated as absent
  *   word           lent for writing: at least 1 word, else refused 112, checked first
  *
  * Gives HRASKELL_DONE and in word[0] the word of O bits that the outputs
@@ -128,18 +135,21 @@ struct hraskell_step {
  *   m, i, l, o, a  the counts M, I, L, O, A
  *   table          lent for reading: at least O + 2A words, or O + 4A for cells, else refused 103
  *   cells          0 for a table of AND gates, any other number for one of lookup cells
- *   kind           HRASKELL_PLAIN, HRASKELL_SIGNED or HRASKELL_TRUNCATED
+ *   kind           HRASKELL_PLAIN, HRASKELL_SIGNED, HRASKELL_TRUNCATED, HRASKELL_MULTIPLY_ADD or
+ *                  HRASKELL_MULTIPLY_ADD_SIGNED
  *   limit          T, the most terms that are held: 128 to 16,384
  *   order          lent for reading: 0 to 4,096 gate variables, one for each step
  *   store          lent for writing: at least T(W + 1) words
  *   scratch        lent for writing: at least 4T(W + 1) words, or 8T(W + 1) for cells
  *   log            lent for writing, the step log: at least one record for each step of the order
- *   answer         lent for writing: at least 6 words, else refused 112, checked first
+ *   answer         lent for writing: at least 7 words, else refused 112, checked first
  *
  * Gives the number of the answer and, in answer,
  *   E, U  steps done, terms held
  *   R     the step at which there was no room (0 is the start), terms held
- *   D     steps done, terms held, a, b, word got, word wanted
+ *   D     steps done, terms held, a, b, c, word got, word wanted; c is 0 for the kinds without c
+ * Of all operands that go wrong, those of D have the fewest 1 bits, and of
+ * those the smallest a + 2^n b, for m and ms a + 2^n b + 2^(2n) c.
  * Other words of answer keep their values. Afterwards store has the last
  * polynomial of at most T terms, W + 1 words for each (the coefficient, then
  * the set of variables, v at bit v mod 64 of word v/64), sets falling when

@@ -28,14 +28,16 @@ pub struct NamedOrder {
     pub steps: Vec<u32>,
 }
 
-/// All blocks that came with the package and have a reading: those of gates, then those of cells.
+/// All blocks that came with the package: those of gates, then those of cells.
 pub fn all() -> Vec<Block> {
     [of_gates(), of_cells()].concat()
 }
 
-/// The blocks of AND gates, by name.
+/// The blocks of AND gates: those that multiply, by name, then those that multiply and add.
 pub fn of_gates() -> Vec<Block> {
-    blocks_in("", ".aag", gates_of)
+    let products = blocks_in("", GATES_ENDING, gates_of);
+    let sums = blocks_in("mac", GATES_ENDING, gates_of);
+    [products, sums].concat()
 }
 
 /// The blocks of lookup cells, by name.
@@ -43,17 +45,8 @@ pub fn of_cells() -> Vec<Block> {
     blocks_in("lut", CELLS_ENDING, cells_of)
 }
 
-/// The tables of lookup cells that multiply and add, by name; no reading is theirs.
-pub fn of_adding_cells() -> Vec<(String, Made)> {
-    let folder = folder().join("lut");
-    let mut files = names_in(&folder, CELLS_ENDING);
-    files.retain(|file| mark_of(file).starts_with('m'));
-    files
-        .into_iter()
-        .map(|file| (mark_of(&file).to_string(), cells_of(&bytes(&folder, &file))))
-        .collect()
-}
-
+/// How the name of a file with a netlist text ends.
+const GATES_ENDING: &str = ".aag";
 /// How the name of a file with a table of lookup cells ends.
 pub const CELLS_ENDING: &str = ".cells";
 
@@ -76,28 +69,30 @@ fn bytes(folder: &Path, file: &str) -> Vec<u8> {
     std::fs::read(folder.join(file)).expect("a block's text")
 }
 
-/// The last part of a block's name, which tells its reading and its operand bits.
-fn mark_of(file: &str) -> &str {
-    let name = file.split('.').next().expect("a name");
-    name.rsplit('-').next().expect("a last part")
+/// The reading and the operand bits that the last part of a block's name tells.
+fn told_by(name: &str) -> (Reading, u32) {
+    let mark = name.rsplit('-').next().expect("a last part");
+    let digits = mark.find(|c: char| c.is_ascii_digit());
+    let (letters, digits) = mark.split_at(digits.expect("the operand bits"));
+    let reading = Reading::of_name(letters.as_bytes());
+    let n = digits.parse();
+    (reading.expect("a reading"), n.expect("a number"))
 }
 
-/// The blocks of a folder whose mark begins with the letter of a reading.
+/// The blocks of a folder, by name.
 fn blocks_in(folder_name: &str, ending: &str, table_of: fn(&[u8]) -> Made) -> Vec<Block> {
     let folder = folder().join(folder_name);
-    let mut blocks = Vec::new();
-    for file in names_in(&folder, ending) {
-        let mark = mark_of(&file);
-        if let Some(reading) = Reading::of_letter(mark.as_bytes()[0]) {
-            blocks.push(Block {
-                name: file.trim_end_matches(ending).to_string(),
-                reading,
-                n: mark[1..].parse().expect("the operand bits"),
-                made: table_of(&bytes(&folder, &file)),
-            });
+    let blocks = names_in(&folder, ending).into_iter().map(|file| {
+        let name = file.trim_end_matches(ending).to_string();
+        let (reading, n) = told_by(&name);
+        Block {
+            name,
+            reading,
+            n,
+            made: table_of(&bytes(&folder, &file)),
         }
-    }
-    blocks
+    });
+    blocks.collect()
 }
 
 fn gates_of(text: &[u8]) -> Made {
@@ -189,7 +184,7 @@ fn run_and_print(block: &Block, limit: u64, order: &NamedOrder) -> bool {
     };
     let holds = is_believable(&answer, order.is_honest);
     let mark = if holds { "" } else { "  WRONG" };
-    let line = answer_line(&answer);
+    let line = answer_line(block.reading, &answer);
     println!("{} {}: {line} (most {most}){mark}", block.name, order.name);
     holds
 }

@@ -1,7 +1,7 @@
 //! Made tables of lookup cells: random sound ones, right multipliers, and gates turned into cells.
 
 use crate::cells::Cell;
-use crate::netlists::{literal_below, operand, Made};
+use crate::netlists::{added, literal_below, operand, rows, width, Made};
 use crate::random::Random;
 use crate::reading::Reading;
 use crate::records::{Record, Records};
@@ -136,30 +136,36 @@ impl Maker {
     }
 }
 
-/// A multiplier of cells that is right under the reading: rows of partial products, added with full adders.
+/// A multiplier of cells that is right under the reading: rows of partial products, added with full adders. Where c is
+/// added, it is sometimes there before all rows and sometimes comes last.
 pub fn cell_multiplier(random: &mut Random, reading: Reading, n: u32) -> Made {
     let l = reading.outputs(n) as usize;
     let mut maker = Maker {
-        inputs: 2 * n,
+        inputs: reading.inputs(n),
         cells: Vec::new(),
     };
     let x = operand(reading, 1, n, l);
     let y = operand(reading, n + 1, n, l);
-    // A plain operand has no bits from n up.
-    let is_plain = reading == Reading::Plain;
-    let rows = if is_plain { n as usize } else { l };
+    let added = added(reading, n);
+    let c_comes_first = reading.adds() && random.one_in(2);
     let mut sum = vec![0; l];
-    for (place, &multiplier) in y.iter().enumerate().take(rows) {
-        let width = if is_plain { n as usize } else { l - place };
+    if c_comes_first {
+        sum.copy_from_slice(&added);
+    }
+    for (place, &multiplier) in y.iter().enumerate().take(rows(reading, n)) {
+        let width = width(reading, n, place);
         let row: Vec<u32> = x[..width]
             .iter()
             .map(|&bit| maker.and(random, bit, multiplier))
             .collect();
-        if place == 0 {
+        if place == 0 && !c_comes_first {
             sum[..width].copy_from_slice(&row);
         } else {
             maker.add_row(random, &mut sum, &row, place);
         }
+    }
+    if reading.adds() && !c_comes_first {
+        maker.add_row(random, &mut sum, &added, 0);
     }
     Made::of_cells(maker.inputs, &sum, &maker.cells)
 }

@@ -18,8 +18,10 @@ pub fn desk(input: &[u8]) -> Vec<u8> {
 }
 
 pub fn desk_by(rules: &Rules, input: &[u8]) -> Vec<u8> {
-    let answer = judged(rules, input).unwrap_or_else(Answer::Refused);
-    let mut line = line_of(&rules.desk, &answer);
+    let mut line = match judged(rules, input) {
+        Ok((reading, answer)) => line_of(&rules.desk, reading, &answer),
+        Err(number) => refused(&rules.desk, number),
+    };
     if rules.desk.line_has_its_end {
         line.push('\n');
     }
@@ -27,7 +29,7 @@ pub fn desk_by(rules: &Rules, input: &[u8]) -> Vec<u8> {
 }
 
 /// The checks in their order: 13 by length, 9 for the kind line, 1 to 7, 13 for M, then judging.
-fn judged(rules: &Rules, input: &[u8]) -> Result<Answer, u32> {
+fn judged(rules: &Rules, input: &[u8]) -> Result<(Reading, Answer), u32> {
     let length = desk_limit(input.len() <= rules.desk.most_bytes);
     if rules.desk.length_comes_before_kind {
         length?;
@@ -45,7 +47,7 @@ fn judged(rules: &Rules, input: &[u8]) -> Result<Answer, u32> {
         return Err(number);
     }
     variables?;
-    Ok(answer)
+    Ok((reading, answer))
 }
 
 /// Refusal 13.
@@ -59,12 +61,17 @@ fn desk_limit(holds: bool) -> Result<(), u32> {
 
 /// The reading that line 1 names, and the netlist text after it.
 fn kind_line<'a>(rules: &DeskRules, input: &'a [u8]) -> Option<(Reading, &'a [u8])> {
-    let reading = Reading::of_letter(*input.first()?)?;
-    match input.get(1) {
-        Some(b'\n') => Some((reading, &input[2..])),
-        None if !rules.kind_line_needs_its_end => Some((reading, &[])),
-        _ => None,
-    }
+    let (line, text) = match input.iter().position(|&byte| byte == b'\n') {
+        Some(end) => (&input[..end], &input[end + 1..]),
+        None if !rules.kind_line_needs_its_end => (input, &[][..]),
+        None => return None,
+    };
+    let seen = if rules.whole_kind_line_counts {
+        line
+    } else {
+        &line[..line.len().min(1)]
+    };
+    Some((Reading::of_name(seen)?, text))
 }
 
 fn answer_of(rules: &Rules, counts: Counts, table: &[u32], reading: Reading) -> Answer {
@@ -83,12 +90,21 @@ fn answer_of(rules: &Rules, counts: Counts, table: &[u32], reading: Reading) -> 
     judge_by(rules, counts, table, records, kind, limit, &order, lent)
 }
 
-/// An answer as the desk program prints it, without the line's end.
-pub fn answer_line(answer: &Answer) -> String {
-    line_of(&Rules::of_document().desk, answer)
+/// An answer under a reading as the desk program prints it, without the line's end.
+pub fn answer_line(reading: Reading, answer: &Answer) -> String {
+    line_of(&Rules::of_document().desk, reading, answer)
 }
 
-fn line_of(rules: &DeskRules, answer: &Answer) -> String {
+/// A refusal as the desk program prints it, without the line's end.
+pub fn refusal_line(number: u32) -> String {
+    refused(&Rules::of_document().desk, number)
+}
+
+fn refused(rules: &DeskRules, number: u32) -> String {
+    line(rules, 'X', &[number.into()])
+}
+
+fn line_of(rules: &DeskRules, reading: Reading, answer: &Answer) -> String {
     let (letter, numbers) = match *answer {
         Answer::Equal { steps, terms } => ('E', vec![steps.into(), terms.into()]),
         Answer::Differs {
@@ -96,22 +112,38 @@ fn line_of(rules: &DeskRules, answer: &Answer) -> String {
             terms,
             a,
             b,
+            c,
             got,
             wanted,
         } => {
-            let shown = if rules.got_comes_before_wanted {
+            let operands = shown_operands(rules, reading, [a, b, c]);
+            let words = if rules.got_comes_before_wanted {
                 [got, wanted]
             } else {
                 [wanted, got]
             };
-            let numbers = vec![steps.into(), terms.into(), a, b, shown[0], shown[1]];
-            ('D', numbers)
+            let counts = [steps.into(), terms.into()];
+            ('D', [&counts[..], &operands, &words].concat())
         }
         Answer::OutOfRoom { step, terms } => ('R', vec![step.into(), terms.into()]),
         Answer::Unfinished { steps, terms } => ('U', vec![steps.into(), terms.into()]),
-        Answer::Refused(number) => ('X', vec![number.into()]),
+        Answer::Refused(number) => return refused(rules, number),
     };
     line(rules, letter, &numbers)
+}
+
+/// The operands as D prints them: c after b, where the reading adds it.
+fn shown_operands(rules: &DeskRules, reading: Reading, [a, b, c]: [u64; 3]) -> Vec<u64> {
+    let shows_c = if reading.adds() {
+        rules.c_is_shown_where_it_is_added
+    } else {
+        !rules.c_is_hidden_where_there_is_none
+    };
+    match (shows_c, rules.c_comes_after_b) {
+        (false, _) => vec![a, b],
+        (true, true) => vec![a, b, c],
+        (true, false) => vec![c, a, b],
+    }
 }
 
 /// A letter and decimal numbers with no leading zero, one space before each number.

@@ -1,9 +1,9 @@
 //! Judging: the checks, the run of steps, and the answer.
 
-use crate::polynomial::Polynomial;
-use crate::reading::Reading;
+use crate::polynomial::{Polynomial, Set};
+use crate::reading::{Layout, Reading};
 use crate::records::Records;
-use crate::rules::{self, JudgingRules, Rules};
+use crate::rules::{self, AddingRules, JudgingRules, Rules};
 use crate::table::{Counts, Netlist};
 use crate::words::{self, Lent, Step};
 
@@ -17,6 +17,8 @@ pub enum Answer {
         terms: u32,
         a: u64,
         b: u64,
+        /// 0 where the kind has no c.
+        c: u64,
         got: u64,
         wanted: u64,
     },
@@ -60,7 +62,7 @@ impl<'a> Question<'a> {
     ) -> Result<Question<'a>, u32> {
         let netlist = Netlist::of(rules, counts, table, records)?;
         let soundness = netlist.soundness(rules);
-        let reading = reading_of(&rules.judging, counts, kind);
+        let reading = reading_of(rules, counts, kind);
         if rules.judging.soundness_comes_before_kind {
             soundness?;
         }
@@ -83,7 +85,7 @@ impl<'a> Question<'a> {
 
     /// Takes the steps of the order while there is room.
     pub fn run(&self, rules: &Rules) -> Run {
-        let start = Polynomial::start(&rules.judging, &self.netlist, self.reading);
+        let start = Polynomial::start(rules, &self.netlist, self.reading);
         if !self.has_room(&rules.judging, &start) {
             return full_start(&rules.judging, &start);
         }
@@ -143,16 +145,18 @@ impl<'a> Question<'a> {
         if last.mentions_above(inputs) && rules.judging.gate_variables_are_unfinished {
             return Answer::Unfinished { steps, terms };
         }
-        let n = self.netlist.counts.n();
-        let (a, b) = wrong_pair(&rules.judging, last, n);
-        let values = self.netlist.values(rules, a, b);
+        let layout = self.reading.layout(&rules.adding, inputs);
+        let wrong = least_wrong_inputs(rules, last, layout, inputs);
+        let operands = layout.operands(wrong);
+        let values = self.netlist.values_at(rules, wrong);
         Answer::Differs {
             steps,
             terms,
-            a,
-            b,
+            a: operands.a,
+            b: operands.b,
+            c: operands.c,
             got: self.netlist.word(&rules.table, &values),
-            wanted: self.reading.wanted(n, a, b),
+            wanted: self.reading.wanted_by(&rules.adding, layout.n, operands),
         }
     }
 }
@@ -171,10 +175,10 @@ fn full_start(rules: &JudgingRules, start: &Polynomial) -> Run {
     }
 }
 
-/// Refusal 9.
-fn reading_of(rules: &JudgingRules, counts: Counts, kind: u32) -> Result<Reading, u32> {
+/// Refusal 9, or the reading that the kind names.
+pub fn reading_of(rules: &Rules, counts: Counts, kind: u32) -> Result<Reading, u32> {
     Reading::of_kind(rules, kind)
-        .filter(|reading| reading.outputs(counts.n()) == counts.o)
+        .filter(|reading| reading.fits(&rules.adding, counts))
         .ok_or(rules::KIND)
 }
 
@@ -196,33 +200,49 @@ fn order_is_allowed(rules: &JudgingRules, counts: Counts, order: &[u32]) -> Resu
     }
 }
 
-/// The differing pair with the fewest 1 bits, of those the one with the smallest a + 2^n·b.
+/// The differing operands with the fewest 1 bits, of those the ones with the smallest a + 2^n·b, where c is added
+/// a + 2^n·b + 2^(2n)·c. They are given as a set of inputs, input v at bit v - 1.
 ///
-/// A pair's value is the sum of the coefficients of all terms inside the set
-/// of its 1 bits. So where no smaller set differs, a set differs exactly when
-/// it is itself a term: the pair sought is the term with the fewest
-/// variables, of those the smallest.
-fn wrong_pair(rules: &JudgingRules, last: &Polynomial, n: u32) -> (u64, u64) {
+/// The polynomial's value is the sum of the coefficients of all terms inside
+/// the set of inputs that are 1. So where no smaller set differs, a set
+/// differs exactly when it is itself a term: the set sought is the term with
+/// the fewest variables, of those the smallest.
+fn least_wrong_inputs(rules: &Rules, last: &Polynomial, layout: Layout, inputs: u32) -> u128 {
     let sets = || last.terms().map(|(set, _)| set);
-    let least = if !rules.pair_is_a_least_term {
+    let least = if !rules.judging.pair_is_a_least_term {
         sets().next_back()
-    } else if !rules.fewest_ones_come_first {
+    } else if !rules.judging.fewest_ones_come_first {
         sets().next()
     } else {
-        sets().min_by_key(|set| (set.len(), *set))
+        sets().min_by_key(|set| (rank(&rules.adding, layout, set), *set))
     };
-    let (mut a, mut b) = (0, 0);
-    for variable in least.into_iter().flatten().map(|&v| u32::from(v)) {
-        if variable <= n {
-            a |= 1 << (variable - 1);
-        } else if variable <= 2 * n {
-            b |= 1 << (variable - n - 1);
-        }
-    }
-    (a, b)
+    let variables = least.into_iter().flatten().map(|&v| u32::from(v));
+    variables
+        .filter(|&variable| variable <= inputs)
+        .fold(0, |wrong, input| wrong | 1 << (input - 1))
 }
 
-/// Judges a netlist. Every lent word at the end is as document 01 says; a refusal changes none.
+/// What comes before the size of a set: how many 1 bits it has, and by the bent rule its part outside of c.
+fn rank(rules: &AddingRules, layout: Layout, set: &Set) -> (usize, Set) {
+    let outside: Set = set
+        .iter()
+        .copied()
+        .filter(|&variable| !layout.is_of_c(variable.into()))
+        .collect();
+    let ones = if rules.ones_of_c_count {
+        set.len()
+    } else {
+        outside.len()
+    };
+    let first = if rules.c_is_above_b {
+        Set::new()
+    } else {
+        outside
+    };
+    (ones, first)
+}
+
+/// Judges a netlist. Every lent word at the end is as documents 01 and 02 say; a refusal changes none.
 pub fn judge(
     counts: Counts,
     table: &[u32],

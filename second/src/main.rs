@@ -1,7 +1,7 @@
 //! The command `second`.
 
 use second::cells_file::read_cells;
-use second::desk::{answer_line, TABLE_WORDS};
+use second::desk::{answer_line, refusal_line, TABLE_WORDS};
 use second::netlists::Made;
 use second::rules::{CountRules, Rules};
 use second::{blocks, desk, judge, orders, read};
@@ -11,8 +11,9 @@ use std::process::ExitCode;
 
 const USAGE: &str = "usage:
   second desk                                    judge what is on standard input, as the desk program does
-  second judge [--steps] KIND T FILE [ORDERFILE] judge a netlist file; KIND is u, s or t
-  second evaluate FILE A B                       the word the outputs show for an operand pair
+  second judge [--steps] KIND T FILE [ORDERFILE] judge a netlist file; KIND is u, s, t, m or ms
+  second evaluate FILE A B                       the word the outputs show for an operand pair; of a block
+                                                 that adds c, A is a + 2^n·b and B is c
   second blocks [T] [SEEDS]                      run the larger real blocks
 a FILE whose name ends in .cells has a table of lookup cells";
 
@@ -77,10 +78,7 @@ fn judge_command(
     file: &str,
     order_file: Option<&str>,
 ) -> Result<bool, Trouble> {
-    let reading = match kind.as_bytes() {
-        [letter] => Reading::of_letter(*letter).ok_or(Trouble::Misuse)?,
-        _ => return Err(Trouble::Misuse),
-    };
+    let reading = Reading::of_name(kind.as_bytes()).ok_or(Trouble::Misuse)?;
     let limit = number(limit)?;
     let netlist = netlist_in(file)?;
     let given_order = order_file.map(order_in).transpose()?;
@@ -91,7 +89,7 @@ fn judge_command(
         }
         Err(number) => (Answer::Refused(number), Vec::new()),
     };
-    println!("{}", answer_line(&answer));
+    println!("{}", answer_line(reading, &answer));
     for Step { gate, terms } in log.iter().filter(|_| shows_steps) {
         println!("{gate} {terms}");
     }
@@ -135,7 +133,7 @@ fn evaluate_command(file: &str, a: u64, b: u64) -> Result<bool, Trouble> {
     let word = netlist_in(file)?.and_then(|made| made.word_at(a, b));
     match word {
         Ok(word) => println!("{word}"),
-        Err(number) => println!("{}", answer_line(&Answer::Refused(number))),
+        Err(number) => println!("{}", refusal_line(number)),
     }
     Ok(true)
 }

@@ -13,6 +13,7 @@ impl Rules {
         all.extend(of_text());
         all.extend(of_table());
         all.extend(of_cells());
+        all.extend(of_adding());
         all.extend(of_checks());
         all.extend(of_polynomial());
         all.extend(of_lent_words());
@@ -98,6 +99,21 @@ fn of_cells() -> Vec<Mutant> {
 }
 
 #[rustfmt::skip]
+fn of_adding() -> Vec<Mutant> {
+    vec![
+        bend("judge: n is I/2 for m and ms", |r| r.adding.n_is_a_quarter = false),
+        bend("judge: I 6 taken for m and ms", |r| r.adding.inputs_come_by_fours = false),
+        bend("judge: c before b", |r| r.adding.b_comes_before_c = false),
+        bend("judge: c has n bits only", |r| r.adding.c_has_2n_bits = false),
+        bend("judge: c left out of the start", |r| r.adding.c_is_in_the_start = false),
+        bend("judge: sign of c spread over the whole wanted word", |r| r.adding.sum_has_l_bits = false),
+        bend("judge: ms read as m", |r| r.adding.ms_has_signs = false),
+        bend("judge: ones of c not counted", |r| r.adding.ones_of_c_count = false),
+        bend("judge: smallest by c below a and b", |r| r.adding.c_is_above_b = false),
+    ]
+}
+
+#[rustfmt::skip]
 fn of_checks() -> Vec<Mutant> {
     vec![
         bend("judge: T 127 taken", |r| r.judging.least_limit = 127),
@@ -149,9 +165,13 @@ fn of_desk() -> Vec<Mutant> {
         bend("desk: T is 128", |r| r.desk.limit = 128),
         bend("desk: 13 and 9 swapped", |r| r.desk.length_comes_before_kind = false),
         bend("desk: kind line needs no end", |r| r.desk.kind_line_needs_its_end = false),
+        bend("desk: first letter of the kind line decides", |r| r.desk.whole_kind_line_counts = false),
         bend("desk: 13 for M after judging", |r| r.desk.variables_come_before_judging = false),
         bend("desk: order from I + 1 up to M", |r| r.desk.order_falls = false),
         bend("desk: leading zero printed", |r| r.desk.numbers_are_bare = false),
+        bend("desk: c not printed", |r| r.desk.c_is_shown_where_it_is_added = false),
+        bend("desk: c printed where there is none", |r| r.desk.c_is_hidden_where_there_is_none = false),
+        bend("desk: c printed before a", |r| r.desk.c_comes_after_b = false),
         bend("desk: got and wanted swapped", |r| r.desk.got_comes_before_wanted = false),
         bend("desk: line end missing", |r| r.desk.line_has_its_end = false),
     ]

@@ -3,7 +3,7 @@
 use crate::cell_netlists::{cell_multiplier, change_cell, random_cells};
 use crate::judge::Question;
 use crate::random::Random;
-use crate::reading::Reading;
+use crate::reading::{Operands, Reading};
 use crate::records::{Record, Records};
 use crate::rules::Rules;
 use crate::table::{evaluate, Counts, Netlist};
@@ -54,9 +54,16 @@ impl Made {
         Question::checked(&rules, counts, &self.table, records, kind, limit, order)
     }
 
-    /// The word that the outputs show at one operand pair, by the document's rules.
-    pub fn word_at(&self, a: u64, b: u64) -> Result<u64, u32> {
-        evaluate(self.counts, &self.table, self.records, a, b)
+    /// The word that the outputs show for the evaluator's two words, by the document's rules.
+    pub fn word_at(&self, x: u64, y: u64) -> Result<u64, u32> {
+        evaluate(self.counts, &self.table, self.records, x, y)
+    }
+
+    /// The word that the outputs show for the operands of a reading.
+    pub fn word_for(&self, reading: Reading, operands: Operands) -> Result<u64, u32> {
+        let n = self.counts.i / reading.inputs(1);
+        let (x, y) = reading.words(n, operands);
+        self.word_at(x, y)
     }
 
     /// The netlist text, also of a netlist that breaks the rules. Only gates have one.
@@ -89,6 +96,23 @@ pub fn random_records(
         Records::Gates => random_sound(random, inputs, outputs, count),
         Records::Cells => random_cells(random, inputs, outputs, count),
     }
+}
+
+/// The same with as many inputs and outputs as a block of the reading has whose a and b have n bits.
+pub fn random_for(
+    random: &mut Random,
+    records: Records,
+    reading: Reading,
+    n: u32,
+    count: u32,
+) -> Made {
+    random_records(
+        random,
+        records,
+        reading.inputs(n),
+        reading.outputs(n),
+        count,
+    )
 }
 
 /// A multiplier of either kind that is right under the reading.
@@ -188,11 +212,12 @@ impl Maker {
     }
 }
 
-/// A multiplier that is right under the reading: rows of partial products, added with ripple carry.
+/// A multiplier that is right under the reading: rows of partial products, added with ripple carry. Where c is added,
+/// it is sometimes there before all rows and sometimes comes last.
 pub fn multiplier(random: &mut Random, reading: Reading, n: u32) -> Made {
     let l = reading.outputs(n) as usize;
     let mut maker = Maker {
-        inputs: 2 * n,
+        inputs: reading.inputs(n),
         gates: Vec::new(),
         spares: random.one_in(2),
     };
@@ -203,27 +228,26 @@ pub fn multiplier(random: &mut Random, reading: Reading, n: u32) -> Made {
     };
     let x = operand(reading, first, n, l);
     let y = operand(reading, second, n, l);
-    let rows = if reading == Reading::Plain {
-        n as usize
-    } else {
-        l
-    };
+    let added = added(reading, n);
+    let c_comes_first = reading.adds() && random.one_in(2);
     let mut sum = vec![0; l];
-    for (place, &multiplier) in y.iter().enumerate().take(rows) {
-        let width = if reading == Reading::Plain {
-            n as usize
-        } else {
-            l - place
-        };
+    if c_comes_first {
+        sum.copy_from_slice(&added);
+    }
+    for (place, &multiplier) in y.iter().enumerate().take(rows(reading, n)) {
+        let width = width(reading, n, place);
         let row: Vec<u32> = x[..width]
             .iter()
             .map(|&bit| maker.and(bit, multiplier))
             .collect();
-        if place == 0 {
+        if place == 0 && !c_comes_first {
             sum[..width].copy_from_slice(&row);
         } else {
             maker.add_row(&mut sum, &row, place);
         }
+    }
+    if reading.adds() && !c_comes_first {
+        maker.add_row(&mut sum, &added, 0);
     }
     Made::new(maker.inputs, &sum, &maker.gates)
 }
@@ -233,10 +257,30 @@ pub fn operand(reading: Reading, first: u32, n: u32, l: usize) -> Vec<u32> {
     (0..l as u32)
         .map(|bit| match reading {
             _ if bit < n => 2 * (first + bit),
-            Reading::Signed => 2 * (first + n - 1),
+            _ if reading.is_signed() => 2 * (first + n - 1),
             _ => 0,
         })
         .collect()
+}
+
+/// The literals of c, or none where it is not added.
+pub fn added(reading: Reading, n: u32) -> Vec<u32> {
+    let first = 2 * n + 1;
+    (first..=reading.inputs(n)).map(|input| 2 * input).collect()
+}
+
+/// How many rows of partial products there are: a plain operand has no bits from n up, a signed one goes on.
+pub fn rows(reading: Reading, n: u32) -> usize {
+    let all = reading.outputs(n);
+    (if reading.is_signed() { all } else { n }) as usize
+}
+
+/// How wide the row at a place is. Where nothing stands above a plain row, n bits and a carry are enough.
+pub fn width(reading: Reading, n: u32, place: usize) -> usize {
+    match reading {
+        Reading::Plain => n as usize,
+        _ => reading.outputs(n) as usize - place,
+    }
 }
 
 /// Changes one word of the table and keeps it sound. The netlist may still be right afterwards.

@@ -55,7 +55,7 @@ pub fn honest(random: &mut Random, netlist: &Netlist) -> Vec<u32> {
 pub fn thrifty(netlist: &Netlist, reading: Reading, most_terms: usize) -> Vec<u32> {
     let mut readers = reader_counts(netlist);
     let rules = Rules::of_document();
-    let mut held = Polynomial::start(&rules.judging, netlist, reading);
+    let mut held = Polynomial::start(&rules, netlist, reading);
     let mut left: BTreeSet<u32> = netlist.gates().collect();
     let mut order = Vec::new();
     while let Some((gate, next)) = left

@@ -1,6 +1,6 @@
 //! Polynomials over variables that are 0 or 1, with coefficients modulo 2^l.
 
-use crate::reading::{low_bits, Reading};
+use crate::reading::{low_bits, Layout, Reading};
 use crate::records::{literal_parts, Record};
 use crate::rules::{JudgingRules, Rules};
 use crate::table::Netlist;
@@ -34,25 +34,37 @@ impl Polynomial {
         }
     }
 
-    /// The sum of 2^i times output i, minus the product specification.
-    pub fn start(rules: &JudgingRules, netlist: &Netlist, reading: Reading) -> Polynomial {
-        let n = netlist.counts.n();
-        let mut start = Polynomial::zero(rules, reading.outputs(n));
+    /// The sum of 2^i times output i, minus the specification: the product, and c where it is added.
+    pub fn start(rules: &Rules, netlist: &Netlist, reading: Reading) -> Polynomial {
+        let layout = reading.layout(&rules.adding, netlist.counts.i);
+        let mut start = Polynomial::zero(&rules.judging, reading.outputs(layout.n));
         for (place, &literal) in (0..).zip(netlist.outputs()) {
             for (variables, sign) in literal_parts(literal) {
                 let set = variables.iter().map(|&v| v as u16).collect();
                 start.add(set, times(power(place), sign));
             }
         }
-        for i in 0..n {
-            for j in 0..n {
-                let (a_i, b_j) = ((1 + i) as u16, (1 + n + j) as u16);
-                let signed = rules.signed_terms_have_signs && reading.term_is_negative(n, i, j);
-                let sign = if signed { 1 } else { -1 };
-                start.add(vec![b_j, a_i], times(power(i + j), sign));
+        start.take_away_product(&rules.judging, reading, layout);
+        if rules.adding.c_is_in_the_start {
+            for k in 0..layout.bits_of_c {
+                let c_k = (1 + layout.before_c + k) as u16;
+                start.add(vec![c_k], times(power(k), -1));
             }
         }
         start
+    }
+
+    /// Takes the sum of 2^(i+j) a_i b_j away, where a term may have a sign.
+    fn take_away_product(&mut self, rules: &JudgingRules, reading: Reading, layout: Layout) {
+        let Layout { n, before_b, .. } = layout;
+        for i in 0..n {
+            for j in 0..n {
+                let (a_i, b_j) = ((1 + i) as u16, (1 + before_b + j) as u16);
+                let signed = rules.signed_terms_have_signs && reading.term_is_negative(n, i, j);
+                let sign = if signed { 1 } else { -1 };
+                self.add(vec![b_j, a_i], times(power(i + j), sign));
+            }
+        }
     }
 
     /// Every term with the variable is replaced by itself with the record's polynomial in the variable's place.

@@ -1,4 +1,4 @@
-//! The rules of document 01 and of section 5 of document 02 as values, and the numbers of refusal.
+//! The rules of document 01 and of sections 5 and 12 of document 02 as values, and the numbers of refusal.
 //!
 //! Every field states one rule, and `of_document` gives it the document's
 //! value. The rest of the program asks these fields instead of writing the
@@ -21,7 +21,7 @@ pub const GATE_LINE: u32 = 6;
 pub const BYTES_AFTER: u32 = 7;
 /// Table handed in unsound.
 pub const UNSOUND: u32 = 8;
-/// Kind unknown, or O is not l.
+/// Kind unknown, O is not l, or I is no multiple of 4 where the kind wants one.
 pub const KIND: u32 = 9;
 /// T outside 128..16,384.
 pub const LIMIT: u32 = 10;
@@ -38,6 +38,7 @@ pub struct Rules {
     pub text: TextRules,
     pub table: TableRules,
     pub cells: CellRules,
+    pub adding: AddingRules,
     pub judging: JudgingRules,
     pub desk: DeskRules,
 }
@@ -97,6 +98,20 @@ pub struct CellRules {
     pub scratch_is_eightfold: bool,
 }
 
+/// What the kinds that multiply and add ask of the inputs, want, and choose among wrong operands.
+#[derive(Clone, Copy, Debug, PartialEq, Eq)]
+pub struct AddingRules {
+    pub n_is_a_quarter: bool,
+    pub inputs_come_by_fours: bool,
+    pub b_comes_before_c: bool,
+    pub c_has_2n_bits: bool,
+    pub c_is_in_the_start: bool,
+    pub sum_has_l_bits: bool,
+    pub ms_has_signs: bool,
+    pub ones_of_c_count: bool,
+    pub c_is_above_b: bool,
+}
+
 /// What judging counts, chooses and leaves in the lent words.
 #[derive(Clone, Copy, Debug, PartialEq, Eq)]
 pub struct JudgingRules {
@@ -135,9 +150,13 @@ pub struct DeskRules {
     pub limit: u64,
     pub length_comes_before_kind: bool,
     pub kind_line_needs_its_end: bool,
+    pub whole_kind_line_counts: bool,
     pub variables_come_before_judging: bool,
     pub order_falls: bool,
     pub numbers_are_bare: bool,
+    pub c_is_shown_where_it_is_added: bool,
+    pub c_is_hidden_where_there_is_none: bool,
+    pub c_comes_after_b: bool,
     pub got_comes_before_wanted: bool,
     pub line_has_its_end: bool,
 }
@@ -149,6 +168,7 @@ impl Rules {
             text: TextRules::of_document(),
             table: TableRules::of_document(),
             cells: CellRules::of_document(),
+            adding: AddingRules::of_document(),
             judging: JudgingRules::of_document(),
             desk: DeskRules::of_document(),
         }
@@ -218,6 +238,22 @@ impl CellRules {
     }
 }
 
+impl AddingRules {
+    const fn of_document() -> AddingRules {
+        AddingRules {
+            n_is_a_quarter: true,
+            inputs_come_by_fours: true,
+            b_comes_before_c: true,
+            c_has_2n_bits: true,
+            c_is_in_the_start: true,
+            sum_has_l_bits: true,
+            ms_has_signs: true,
+            ones_of_c_count: true,
+            c_is_above_b: true,
+        }
+    }
+}
+
 impl JudgingRules {
     const fn of_document() -> JudgingRules {
         JudgingRules {
@@ -258,9 +294,13 @@ impl DeskRules {
             limit: 512,
             length_comes_before_kind: true,
             kind_line_needs_its_end: true,
+            whole_kind_line_counts: true,
             variables_come_before_judging: true,
             order_falls: true,
             numbers_are_bare: true,
+            c_is_shown_where_it_is_added: true,
+            c_is_hidden_where_there_is_none: true,
+            c_comes_after_b: true,
             got_comes_before_wanted: true,
             line_has_its_end: true,
         }

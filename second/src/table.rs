@@ -1,6 +1,7 @@
-//! Counts, sound tables, and the value of a netlist at one operand pair.
+//! Counts, sound tables, and the value of a netlist at one choice of its inputs.
 
 use crate::cells::Cell;
+use crate::reading::low_bits;
 use crate::records::{Record, Records};
 use crate::rules::{self, CountRules, Rules, TableRules};
 
@@ -15,8 +16,8 @@ pub struct Counts {
 }
 
 impl Counts {
-    /// The bits of one operand.
-    pub fn n(self) -> u32 {
+    /// Half of the inputs. The evaluator's two words have so many bits each; where c is not added, that is n.
+    pub fn half(self) -> u32 {
         self.i / 2
     }
 
@@ -137,16 +138,23 @@ impl<'a> Netlist<'a> {
         }
     }
 
-    /// The value of every variable at an operand pair; place 0 stands for the constant false.
-    pub fn values(&self, rules: &Rules, a: u64, b: u64) -> Vec<bool> {
+    /// The value of every variable where the inputs have the bits of two words; place 0 stands for the constant false.
+    pub fn values(&self, rules: &Rules, x: u64, y: u64) -> Vec<bool> {
         let mut values = vec![false; self.counts.m as usize + 1];
         for input in 1..=self.counts.i {
-            values[input as usize] = input_value(&rules.table, self.counts.n(), input, a, b);
+            values[input as usize] = input_value(&rules.table, self.counts.half(), input, x, y);
         }
         for gate in self.gates() {
             values[gate as usize] = record_value(rules, &values, self.record(gate));
         }
         values
+    }
+
+    /// The same for a set of inputs, input v at bit v - 1.
+    pub fn values_at(&self, rules: &Rules, inputs: u128) -> Vec<bool> {
+        let half = self.counts.half();
+        let x = inputs as u64 & low_bits(half);
+        self.values(rules, x, (inputs >> half) as u64)
     }
 
     /// The word the outputs show for these values, output 0 lowest.
@@ -168,19 +176,19 @@ impl<'a> Netlist<'a> {
     }
 }
 
-/// Inputs 1..n are a's bits, inputs n+1..2n are b's.
-fn input_value(rules: &TableRules, n: u32, input: u32, a: u64, b: u64) -> bool {
+/// The first half of the inputs are bits of x, the others are bits of y: a and b, or a + 2^n·b and c.
+fn input_value(rules: &TableRules, half: u32, input: u32, x: u64, y: u64) -> bool {
     let (first, second) = if rules.first_operand_comes_first {
-        (a, b)
+        (x, y)
     } else {
-        (b, a)
+        (y, x)
     };
-    if input <= n {
+    if input <= half {
         return first >> (input - 1) & 1 == 1;
     }
-    let place = input - n - 1;
-    // The bent rule joins the operands without cutting them, so that bit n of one meets bit 0 of the other.
-    let leak = !rules.operand_bits_from_n_are_absent && first >> (n + place) & 1 == 1;
+    let place = input - half - 1;
+    // The bent rule joins the words without cutting them, so that the first bit above the half meets bit 0 of the other.
+    let leak = !rules.operand_bits_from_n_are_absent && first >> (half + place) & 1 == 1;
     second >> place & 1 == 1 || leak
 }
 
@@ -207,15 +215,15 @@ pub fn literal_value(rules: &TableRules, values: &[bool], literal: u32) -> bool 
     values[literal as usize / 2] != inverted
 }
 
-/// The word the outputs show at one operand pair. Any O will do: no reading is asked for.
+/// The word the outputs show where the inputs have the bits of two words. Any O will do: no reading is asked for.
 pub fn evaluate(
     counts: Counts,
     table: &[u32],
     records: Records,
-    a: u64,
-    b: u64,
+    x: u64,
+    y: u64,
 ) -> Result<u64, u32> {
-    evaluate_by(&Rules::of_document(), counts, table, records, a, b)
+    evaluate_by(&Rules::of_document(), counts, table, records, x, y)
 }
 
 pub fn evaluate_by(
@@ -223,11 +231,11 @@ pub fn evaluate_by(
     counts: Counts,
     table: &[u32],
     records: Records,
-    a: u64,
-    b: u64,
+    x: u64,
+    y: u64,
 ) -> Result<u64, u32> {
     let netlist = Netlist::of(rules, counts, table, records)?;
     netlist.soundness(rules)?;
-    let values = netlist.values(rules, a, b);
+    let values = netlist.values(rules, x, y);
     Ok(netlist.word(&rules.table, &values))
 }

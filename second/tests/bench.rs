@@ -30,6 +30,7 @@ fn differs(terms: u32, a: u64, b: u64, got: u64, wanted: u64) -> Answer {
         terms,
         a,
         b,
+        c: 0,
         got,
         wanted,
     }
@@ -101,6 +102,7 @@ fn p11_two_bits_differ_when_signed() {
         terms: 2,
         a: 2,
         b: 1,
+        c: 0,
         got: 2,
         wanted: 14,
     };

@@ -13,7 +13,7 @@ use second::netlists::Made;
 use second::orders::{falling, is_honest};
 use second::polynomial::Polynomial;
 use second::random::Random;
-use second::reading::Reading;
+use second::reading::{Operands, Reading};
 use second::Answer::{Differs, Equal, OutOfRoom, Refused};
 use second::{blocks, evaluate, Counts, Records};
 
@@ -91,6 +91,7 @@ fn the_parity_of_three_inputs_leaves_its_polynomial() {
         terms: 9,
         a: 1,
         b: 0,
+        c: 0,
         got: 1,
         wanted: 0,
     };
@@ -126,7 +127,7 @@ fn a_coefficient_that_vanishes_is_put_in_and_dropped() {
     // 8(a0 + a1 - 2 a0 a1): the last is 0 modulo 16.
     let made = Made::of_cells(4, &[0, 0, 0, 10], &[cell(150, 1, 2, 0)]);
     let netlist = made.netlist();
-    let start = Polynomial::start(&DOCUMENT.judging, &netlist, Reading::Plain);
+    let start = Polynomial::start(&DOCUMENT, &netlist, Reading::Plain);
     let next = start.step(&DOCUMENT, 5, netlist.record(5));
     // Four terms of the product stay, and the cell makes three of one: a subset with the constant makes none.
     assert_eq!((start.count(), next.ungathered_count()), (5, 7));
@@ -149,6 +150,7 @@ fn a_step_makes_eight_terms_of_one() {
         terms: 255,
         a: 0,
         b: 0,
+        c: 0,
         got: 1,
         wanted: 0,
     };
@@ -162,9 +164,9 @@ fn a_step_makes_eight_terms_of_one() {
 
 #[test]
 fn gates_turned_into_cells_are_judged_the_same() {
-    for seed in 0..600 {
+    for seed in 0..1_000 {
         let mut random = Random::new(seed);
-        let reading = Reading::ALL[seed as usize % 3];
+        let reading = Reading::ALL[seed as usize % Reading::ALL.len()];
         let gates = random_netlist(&mut random, Records::Gates, reading);
         let order = random_order(&mut random, &gates);
         let cells = gates_as_cells(&gates);
@@ -173,8 +175,8 @@ fn gates_turned_into_cells_are_judged_the_same() {
         assert_eq!(by_gates.answer, by_cells.answer);
         assert_eq!(by_gates.store, by_cells.store);
         assert_eq!(by_gates.log, by_cells.log);
-        let (a, b) = (random.word(), random.word());
-        assert_eq!(gates.word_at(a, b), cells.word_at(a, b));
+        let (x, y) = (random.word(), random.word());
+        assert_eq!(gates.word_at(x, y), cells.word_at(x, y));
         assert_eq!(
             is_honest(&gates.netlist(), &order),
             is_honest(&cells.netlist(), &order)
@@ -244,13 +246,14 @@ fn judging_cells_refuses_by_2_3_and_8_to_12_in_order() {
     let right = JudgeCase::new(&and_cell(&[6, 0]), 0, 128, vec![3]);
     assert_eq!((right.store_words, right.scratch_words), (256, 2_048));
     assert_eq!(refusal(&right), 0);
-    let things: [WrongThing; 13] = [
+    let things: [WrongThing; 14] = [
         (2, |case| case.counts.l = 1),
         (3, |case| case.table.truncate(5)),
         (8, |case| case.table[1] = 8),
         (8, |case| case.table[2] = 256),
         (8, |case| case.table[3] = 3),
         (9, |case| case.kind = 2),
+        (9, |case| case.kind = 3),
         (10, |case| case.limit = 127),
         (10, |case| case.limit = 16_385),
         (11, |case| case.order = vec![2]),
@@ -301,22 +304,23 @@ fn files_of_cells_have_the_lines_that_their_counts_tell() {
 #[test]
 fn blocks_that_multiply_and_add_show_the_sum() {
     let mut random = Random::new(6);
-    let blocks = blocks::of_adding_cells();
+    let mut blocks = blocks::of_cells();
+    blocks.retain(|block| block.reading.adds());
     assert_eq!(blocks.len(), 4);
-    for (mark, made) in blocks {
-        let n = made.counts.i / 4;
-        let reading = match mark.strip_prefix("ms") {
-            Some(_) => Reading::Signed,
-            None => Reading::Plain,
+    for block in blocks {
+        let n = block.made.counts.i / 4;
+        assert_eq!(block.n, n);
+        let product = match block.reading {
+            Reading::SignedAdding => Reading::Signed,
+            _ => Reading::Plain,
         };
-        assert!(mark.ends_with(&n.to_string()));
         for _ in 0..300 {
             let (a, b, c) = (random.word(), random.word(), random.word());
             let low = second::reading::low_bits(n);
-            let sum = reading.wanted(n, a, b).wrapping_add(c);
+            let sum = product.wanted(n, Operands { a, b, c: 0 }).wrapping_add(c);
             let wanted = sum & second::reading::low_bits(2 * n);
             let both = a & low | (b & low) << n;
-            assert_eq!(made.word_at(both, c), Ok(wanted), "{mark}");
+            assert_eq!(block.made.word_at(both, c), Ok(wanted), "{}", block.name);
         }
     }
 }

@@ -63,6 +63,33 @@ fn judge_prints_the_answer_and_the_steps() {
 }
 
 #[test]
+fn judge_knows_the_kinds_that_multiply_and_add() {
+    // c_0 and c_1 are shown and ab is left out; then b in place of c_0.
+    let without_product = file("sum.aag", "aag 4 4 0 2 0\n2\n4\n6\n8\n6\n8\n");
+    let without_product = without_product.to_str().unwrap();
+    for kind in ["m", "ms"] {
+        let line = printed(&["judge", kind, "128", without_product], b"");
+        assert_eq!(line, "D 0 1 1 1 0 0 1\n");
+    }
+    let cells = file("sum.cells", "4 4 0 2 0\n4\n8\n");
+    let line = printed(&["judge", "m", "128", cells.to_str().unwrap()], b"");
+    assert_eq!(line, "D 0 3 0 1 0 1 0\n");
+    assert_eq!(
+        printed(&["judge", "u", "128", without_product], b""),
+        "X 9\n"
+    );
+    // The first word has a and b, the second c.
+    assert_eq!(
+        printed(&["evaluate", without_product, "3", "2"], b""),
+        "2\n"
+    );
+    assert_eq!(
+        printed(&["evaluate", without_product, "7", "6"], b""),
+        "2\n"
+    );
+}
+
+#[test]
 fn judge_shows_the_steps_before_there_was_no_room() {
     let text =
         "aag 15 8 0 4 7\n2\n4\n6\n8\n10\n12\n14\n16\n30\n0\n0\n0\n18 5 3\n20 18 7\n22 20 9\n\
@@ -114,13 +141,16 @@ fn a_file_of_cells_is_judged_and_evaluated_as_cells() {
 
 #[test]
 fn misuse_prints_the_usage_and_ends_with_2() {
-    let wrong: [&[&str]; 12] = [
+    let wrong: [&[&str]; 15] = [
         &[],
         &["help"],
         &["desk", "more"],
         &["desk", "--steps"],
         &["judge"],
         &["judge", "x", "128", "file"],
+        &["judge", "sm", "128", "file"],
+        &["judge", "mx", "128", "file"],
+        &["judge", "", "128", "file"],
         &["judge", "u", "many", "file"],
         &["judge", "u", "-1", "file"],
         &["judge", "u", "", "file"],

@@ -3,6 +3,7 @@
 //! HRASKELL_DESK_MAIN names the program. The test that needs it is left out of a plain `cargo test` and run with
 //! `cargo test --release --test desk_program -- --include-ignored`; it fails where the variable names no program.
 
+use second::cases::adding::one_bit;
 use second::cases::damages::{cuts, Damage};
 use second::cases::desks;
 use second::cases::judgements::{and_netlist, two_bits};
@@ -45,25 +46,20 @@ fn cases() -> Vec<Vec<u8>> {
     cases
 }
 
-/// A netlist's text under each kind.
-fn under_each_kind(text: &[u8]) -> impl Iterator<Item = Vec<u8>> + '_ {
-    ["u\n", "s\n", "t\n"]
-        .map(|line| desks::input(line, text))
-        .into_iter()
-}
-
 /// The netlists of P1 to P11, and two of them cut at every place.
 fn bench_sheet() -> Vec<Vec<u8>> {
     let outputs = [&[6, 0][..], &[6, 6], &[7, 0], &[6]];
     let mut texts: Vec<Vec<u8>> = outputs.map(|shown| and_netlist(shown).text()).into();
     texts.push(Made::new(2, &[7, 0], &[(5, 3)]).text());
     texts.push(two_bits().text());
+    texts.push(one_bit(&[16, 22]).text());
     let mut inputs: Vec<Vec<u8>> = texts
         .iter()
-        .flat_map(|text| under_each_kind(text))
+        .flat_map(|text| desks::under_each_kind(text))
         .collect();
     inputs.extend(cuts(&desks::input("u\n", AND_TEXT.as_bytes())));
     inputs.extend(cuts(&desks::input("s\n", &two_bits().text())));
+    inputs.extend(cuts(&desks::input("ms\n", &one_bit(&[16, 22]).text())));
     inputs
 }
 
@@ -89,12 +85,12 @@ fn real_blocks() -> Vec<Vec<u8>> {
         .into_iter()
         .map(|block| block.made.text());
     texts
-        .flat_map(|text| under_each_kind(&text).collect::<Vec<_>>())
+        .flat_map(|text| desks::under_each_kind(&text))
         .collect()
 }
 
 fn kind_line(random: &mut Random) -> &'static str {
-    random.pick(&["u\n", "s\n", "t\n"])
+    random.pick(&["u\n", "s\n", "t\n", "m\n", "ms\n"])
 }
 
 fn damaged(random: &mut Random, damage: Damage) -> Vec<u8> {
@@ -113,26 +109,29 @@ fn wrong_block(random: &mut Random) -> Vec<u8> {
     });
     let (reading, mut made) = if random.one_in(3) {
         let reading = random.pick(&Reading::ALL);
-        (reading, multiplier(random, reading, 3))
+        // Three bits that add c are too many gates for the desk.
+        let n = if reading.adds() { 2 } else { 3 };
+        (reading, multiplier(random, reading, n))
     } else {
         FITTING[random.below(FITTING.len())].clone()
     };
     for _ in 0..1 + random.below(2) {
         made = with_fault(random, &made);
     }
-    desks::input("", &[&[reading.letter(), b'\n'], &*made.text()].concat())
+    desks::under(reading, &made.text())
 }
 
-/// Up to 32 bits, and M from 120 to 129 or few gates: large words, and R at the start where the products are too many.
+/// Up to 64 inputs, and M from 120 to 129 or few gates: large words, and R at the start where the products are too many.
 fn wide(random: &mut Random) -> Vec<u8> {
     let reading = random.pick(&Reading::ALL);
-    let n = 1 + random.below(32) as u32;
+    let n = 1 + random.below(reading.most_bits() as usize) as u32;
+    let inputs = reading.inputs(n);
     let gates = match random.below(2) {
         0 => random.below(6) as u32,
-        _ => 120 + random.below(10) as u32 - 2 * n,
+        _ => 120 + random.below(10) as u32 - inputs,
     };
-    let made = random_sound(random, 2 * n, reading.outputs(n), gates);
-    desks::input("", &[&[reading.letter(), b'\n'], &*made.text()].concat())
+    let made = random_sound(random, inputs, reading.outputs(n), gates);
+    desks::under(reading, &made.text())
 }
 
 /// Any bytes, or the bytes that a netlist text is made of, sometimes after a right beginning.
@@ -142,6 +141,8 @@ fn noise(random: &mut Random) -> Vec<u8> {
         "u\n",
         "s\naag ",
         "t\naag 3 2 0 1 1\n",
+        "m",
+        "ms\naag 5 4 0 2 1\n2\n4\n6\n8\n",
         "u\naag 3 2 0 2 1\n2\n4\n",
     ]);
     let mut bytes = beginning.as_bytes().to_vec();

@@ -107,6 +107,7 @@ fn coefficients_at_l_64_wrap() {
         terms: 1_025,
         a: 0,
         b: 0,
+        c: 0,
         got: u64::MAX,
         wanted: 0,
     };
@@ -114,7 +115,7 @@ fn coefficients_at_l_64_wrap() {
     // W is 2 for M = 64, and b_31 is variable 64.
     assert_eq!(seen.store[..3], [3 << 62, 1 << 32, 1]);
     assert_eq!(seen.store[3 * 1_024..3 * 1_025], [u64::MAX, 0, 0]);
-    assert_eq!(wanted(0, 32, u64::MAX, u64::MAX), 0xffff_fffe_0000_0001);
+    assert_eq!(wanted(0, 32, u64::MAX, u64::MAX, 0), 0xffff_fffe_0000_0001);
 }
 
 #[test]
@@ -173,6 +174,7 @@ fn out_of_room_at_a_later_step() {
         terms: 255,
         a: 0,
         b: 0,
+        c: 0,
         got: 1,
         wanted: 0,
     };
@@ -195,7 +197,7 @@ fn the_wrong_pair_is_no_term_that_contains_a_smaller_one() {
     // P9 ends with a + b + 2ab. The term ab is left, but at a = b = 1 the sum is 4, which is 0.
     let made = Made::new(2, &[7, 0], &[(5, 3)]);
     assert_eq!(made.word_at(1, 1), Ok(1));
-    assert_eq!(wanted(0, 1, 1, 1), 1);
+    assert_eq!(wanted(0, 1, 1, 1, 0), 1);
     match answered(&made, 0, 128, &[3]) {
         Differs { terms, a, b, .. } => assert_eq!((terms, a, b), (3, 1, 0)),
         other => panic!("{other:?}"),
@@ -217,6 +219,7 @@ fn the_wrong_pair_has_the_fewest_ones_before_it_is_smallest() {
         terms: 2,
         a: 0,
         b: 2,
+        c: 0,
         got: 1,
         wanted: 0,
     };
@@ -244,6 +247,7 @@ fn missed_gates_do_not_matter_when_none_is_left() {
         terms: 2,
         a: 1,
         b: 0,
+        c: 0,
         got: 1,
         wanted: 0,
     };
@@ -294,15 +298,15 @@ fn a_refusal_changes_no_lent_word() {
 
 #[test]
 fn one_bit_signed_operands_are_0_or_minus_1() {
-    assert_eq!(wanted(1, 1, 1, 1), 1);
-    assert_eq!(wanted(1, 1, 1, 0), 0);
-    assert_eq!(wanted(1, 2, 2, 1), 14);
-    assert_eq!(wanted(1, 2, 2, 2), 4);
-    assert_eq!(wanted(1, 32, 1 << 31, 1 << 31), 1 << 62);
-    assert_eq!(wanted(1, 32, 0xffff_ffff, 1), u64::MAX);
-    assert_eq!(wanted(0, 1, 3, 0xff), 1);
-    assert_eq!(wanted(2, 2, 3, 3), 1);
-    assert_eq!(wanted(2, 32, 0xffff_ffff, 0xffff_ffff), 1);
+    assert_eq!(wanted(1, 1, 1, 1, 0), 1);
+    assert_eq!(wanted(1, 1, 1, 0, 0), 0);
+    assert_eq!(wanted(1, 2, 2, 1, 0), 14);
+    assert_eq!(wanted(1, 2, 2, 2, 0), 4);
+    assert_eq!(wanted(1, 32, 1 << 31, 1 << 31, 0), 1 << 62);
+    assert_eq!(wanted(1, 32, 0xffff_ffff, 1, 0), u64::MAX);
+    assert_eq!(wanted(0, 1, 3, 0xff, 0), 1);
+    assert_eq!(wanted(2, 2, 3, 3, 0), 1);
+    assert_eq!(wanted(2, 32, 0xffff_ffff, 0xffff_ffff, 0), 1);
 }
 
 #[test]

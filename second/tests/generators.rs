@@ -17,6 +17,8 @@ fn pairs_are_refused_for_what_is_wrong_with_them() {
         let records = Records::ALL[turn % 2];
         let sound = pairs::sound(&mut random, records);
         assert!(sound.seen(&DOCUMENT).is_ok());
+        let sum = pairs::of_sums(&mut random, records);
+        assert!(sum.seen(&DOCUMENT).is_ok());
         let wrong = pairs::of_wrong_counts(&mut random, records);
         assert_eq!(wrong.seen(&DOCUMENT), Err(2));
         let short = pairs::of_short_table(&mut random, records);

@@ -77,6 +77,24 @@ fn bent_rules_of_cells_leave_gates_alone() {
 }
 
 #[test]
+fn bent_rules_of_adding_leave_the_other_kinds_alone() {
+    let mut random = Random::new(7);
+    let mut mutants = Rules::mutants_of("judge");
+    mutants.retain(|(_, bent)| bent.adding != DOCUMENT.adding);
+    assert_eq!(mutants.len(), 9);
+    for turn in 0..100 {
+        let case = judgements::random(&mut random, Records::ALL[turn % 2]);
+        if case.kind > 2 {
+            continue;
+        }
+        let right = case.seen(&DOCUMENT);
+        for (name, bent) in &mutants {
+            assert!(case.seen(bent) == right, "{name}");
+        }
+    }
+}
+
+#[test]
 fn every_mutant_bends_something_and_no_two_are_alike() {
     let mutants = Rules::mutants();
     for (place, (name, bent)) in mutants.iter().enumerate() {

@@ -1,21 +1,23 @@
-//! The real blocks of up to six bits. All of them are right under their own reading.
+//! The real blocks of up to six bits, where c is added up to four. All of them are right under their own reading.
 
 mod common;
 
+use common::wrong_operands;
 use second::blocks::{all, is_believable, most_terms, orders_for, run, thrifty_order, Block};
-use second::brute::{least_wrong_pair, WrongPair};
+use second::brute::{least_wrong_operands, WrongOperands};
 use second::orders::is_honest;
-use second::reading::Reading;
+use second::reading::{Operands, Reading};
 use second::{wanted, Answer};
 
 fn small_blocks() -> Vec<Block> {
-    all().into_iter().filter(|block| block.n <= 6).collect()
+    let is_small = |block: &Block| block.n <= if block.reading.adds() { 4 } else { 6 };
+    all().into_iter().filter(is_small).collect()
 }
 
-/// Found by trying all pairs.
-fn least_wrong(block: &Block) -> Result<Option<WrongPair>, u32> {
+/// Found by trying all operands.
+fn least_wrong(block: &Block) -> Result<Option<WrongOperands>, u32> {
     let made = &block.made;
-    least_wrong_pair(made.counts, &made.table, made.records, block.reading.kind())
+    least_wrong_operands(made.counts, &made.table, made.records, block.reading.kind())
 }
 
 fn answer(block: &Block, limit: u64, order: &[u32]) -> Answer {
@@ -25,10 +27,12 @@ fn answer(block: &Block, limit: u64, order: &[u32]) -> Answer {
 #[test]
 fn names_tell_the_operand_bits_and_the_outputs() {
     let blocks = all();
-    assert_eq!(blocks.len(), 33 + 8);
+    assert_eq!(blocks.len(), 33 + 8 + 5 + 4);
+    assert_eq!(blocks.iter().filter(|b| b.reading.adds()).count(), 5 + 4);
     for block in blocks {
-        assert_eq!(block.n, block.made.counts.n(), "{}", block.name);
-        assert_eq!(block.reading.outputs(block.n), block.made.counts.o);
+        let (n, counts) = (block.n, block.made.counts);
+        assert_eq!(block.reading.inputs(n), counts.i, "{}", block.name);
+        assert_eq!(block.reading.outputs(n), counts.o);
     }
 }
 
@@ -94,6 +98,11 @@ fn blocks_need_the_terms_that_their_readme_tells() {
             "yosys-lut3-u6" => assert_eq!(most_terms(&falling), 5_359),
             "yosys-lut3-s5" => assert_eq!(most_terms(&falling), 135),
             "yosys-lut3-t8" => assert_eq!(most_terms(&falling), 95),
+            "yosys-synth-m2" => assert_eq!(most_terms(&falling), 25),
+            "yosys-synth-m4" => assert_eq!(most_terms(&falling), 51),
+            "yosys-synth-ms2" => assert_eq!(most_terms(&falling), 35),
+            "yosys-techmap-m3" => assert_eq!(most_terms(&falling), 189),
+            "yosys-techmap-ms3" => assert_eq!(most_terms(&falling), 427),
             "yosys-lut3-s8" => assert!(matches!(falling.answer, Answer::OutOfRoom { .. })),
             "yosys-techmap-u8" | "yosys-techmap-s8" => {
                 assert!(matches!(falling.answer, Answer::OutOfRoom { .. }));
@@ -108,28 +117,86 @@ fn blocks_need_the_terms_that_their_readme_tells() {
     }
 }
 
+/// A block under another reading is called different in the falling order, with the operands found by trying all.
+fn differs_under(block: Block, reading: Reading, limit: u64) {
+    let order = second::orders::falling(block.made.counts);
+    let other = Block { reading, ..block };
+    let answer = answer(&other, limit, &order);
+    assert!(
+        matches!(answer, Answer::Differs { .. }),
+        "{} {answer:?}",
+        other.name
+    );
+    assert_eq!(Ok(wrong_operands(&answer)), least_wrong(&other));
+}
+
 #[test]
 fn plain_blocks_differ_when_read_as_signed() {
     for block in small_blocks() {
         // The others have no room for it in this order.
         let has_room = block.name.starts_with("abc") || block.name == "yosys-lut3-u4";
-        if block.reading != Reading::Plain || !has_room {
-            continue;
+        if block.reading == Reading::Plain && has_room {
+            differs_under(block, Reading::Signed, 1_024);
         }
+    }
+}
+
+#[test]
+fn blocks_that_add_are_equal_in_the_falling_order_and_the_widest_differs_when_plain() {
+    for block in all().into_iter().filter(|block| block.reading.adds()) {
         let order = second::orders::falling(block.made.counts);
-        let signed = Block {
-            reading: Reading::Signed,
-            ..block
-        };
-        let brute = least_wrong(&signed).unwrap().unwrap();
-        match answer(&signed, 1_024, &order) {
-            Answer::Differs {
-                a, b, got, wanted, ..
-            } => assert_eq!(
-                (a, b, got, wanted),
-                (brute.a, brute.b, brute.got, brute.wanted)
-            ),
-            other => panic!("{} {other:?}", signed.name),
+        let steps = order.len() as u32;
+        let equal = Answer::Equal { steps, terms: 0 };
+        assert_eq!(answer(&block, 16_384, &order), equal, "{}", block.name);
+        if block.name == "yosys-lut3-ms6" {
+            // -32·1 is 4,064 modulo 4,096; the top bit of a with the lowest of b is the least that has a sign.
+            let wrong = WrongOperands {
+                a: 32,
+                b: 1,
+                c: 0,
+                got: 4_064,
+                wanted: 32,
+            };
+            let reading = Reading::Adding;
+            let plain = answer(&Block { reading, ..block }, 16_384, &order);
+            assert_eq!(wrong_operands(&plain), Some(wrong));
+        }
+    }
+}
+
+#[test]
+fn blocks_that_add_differ_under_each_other_reading_that_takes_them() {
+    let blocks = small_blocks().into_iter().filter(|b| b.reading.adds());
+    for block in blocks {
+        // u and s want as many outputs as inputs; t wants half as many, as m and ms do.
+        for reading in [Reading::Plain, Reading::Signed] {
+            let other = Block {
+                reading,
+                ..block.clone()
+            };
+            assert_eq!(run(&other, 128, &[]).err(), Some(9), "{}", block.name);
+        }
+        let others = [Reading::Truncated, Reading::Adding, Reading::SignedAdding];
+        for reading in others.into_iter().filter(|&r| r != block.reading) {
+            differs_under(block.clone(), reading, 16_384);
+        }
+    }
+}
+
+#[test]
+fn blocks_that_only_multiply_differ_under_the_readings_that_add() {
+    for block in small_blocks() {
+        let by_fours = block.made.counts.i.is_multiple_of(4);
+        for reading in [Reading::Adding, Reading::SignedAdding] {
+            let other = Block {
+                reading,
+                ..block.clone()
+            };
+            match block.reading {
+                Reading::Truncated if by_fours => differs_under(block.clone(), reading, 16_384),
+                _ if block.reading.adds() => {}
+                _ => assert_eq!(run(&other, 128, &[]).err(), Some(9), "{}", block.name),
+            }
         }
     }
 }
@@ -139,9 +206,11 @@ fn larger_blocks_show_the_wanted_word_at_random_pairs() {
     let mut random = second::random::Random::new(3);
     for block in all() {
         for _ in 0..200 {
-            let (a, b) = (random.word(), random.word());
-            let got = block.made.word_at(a, b);
-            assert_eq!(got, Ok(wanted(block.reading.kind(), block.n, a, b)));
+            let (a, b, c) = (random.word(), random.word(), random.word());
+            let operands = Operands { a, b, c };
+            let got = block.made.word_for(block.reading, operands);
+            let kind = block.reading.kind();
+            assert_eq!(got, Ok(wanted(kind, block.n, a, b, c)), "{}", block.name);
         }
     }
 }

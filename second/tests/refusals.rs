@@ -252,6 +252,8 @@ fn wrong_things() -> Vec<WrongThing> {
         (8, |case| case.table[2] = 1),
         (9, |case| case.kind = 2),
         (9, |case| case.kind = 3),
+        (9, |case| case.kind = 4),
+        (9, |case| case.kind = 5),
         (9, |case| case.kind = 256),
         (10, |case| case.limit = 127),
         (10, |case| case.limit = 16_385),
@@ -321,13 +323,20 @@ fn refusal_13_at_the_desk() {
 #[test]
 fn kind_lines_at_the_desk() {
     for kind in [
-        "", "u", "\n", "x\n", "U\n", "uu\n", "u \n", " u\n", "u\r\n", "0\n",
+        "", "u", "m", "ms", "\n", "x\n", "U\n", "uu\n", "u \n", " u\n", "u\r\n", "0\n", "M\n",
+        "mx\n", "sm\n", "m \n", "ms \n", " m\n", "m s\n", "mss\n", "m\r\n", "3\n",
     ] {
         assert_eq!(desk(kind.as_bytes()), b"X 9\n", "{kind}");
         let input = format!("{kind}{AND_TEXT}");
         assert_eq!(desk(input.as_bytes()), b"X 9\n", "{kind}");
     }
-    for (kind, line) in [("u", "E 1 0\n"), ("s", "E 1 0\n"), ("t", "X 9\n")] {
+    for (kind, line) in [
+        ("u", "E 1 0\n"),
+        ("s", "E 1 0\n"),
+        ("t", "X 9\n"),
+        ("m", "X 9\n"),
+        ("ms", "X 9\n"),
+    ] {
         let input = format!("{kind}\n{AND_TEXT}");
         assert_eq!(desk(input.as_bytes()), line.as_bytes());
         assert_eq!(desk(format!("{kind}\n").as_bytes()), b"X 1\n");

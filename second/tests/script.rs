@@ -1,7 +1,7 @@
 //! The script `judge` at the top of the repository, run as a newcomer runs it.
 //!
 //! The second program stands in for the desk program, so that nothing has to be proved first. The lines expected are
-//! those of document 01, or were worked out by hand from its rules.
+//! those of document 01, or were worked out by hand from its rules and those of document 02.
 
 use std::io::Write;
 use std::os::unix::fs::PermissionsExt;
@@ -14,6 +14,12 @@ use std::sync::{Mutex, MutexGuard, PoisonError};
 static STARTS: Mutex<()> = Mutex::new(());
 
 const AND: &str = "aag 3 2 0 2 1\n2\n4\n6\n0\n6 4 2\n";
+
+/// One bit that adds c: inputs a, b, c_0, c_1; 10 is ab, 16 its sum with c_0, 12 the carry, 22 the sum of that with c_1.
+/// Of one bit, 0 and -1 have the products of 0 and 1, so it is right under m and under ms.
+const ADD: &str =
+    "aag 11 4 0 2 7\n2\n4\n6\n8\n16\n22\n10 4 2\n12 10 6\n14 11 7\n16 15 13\n18 12 8\n\
+                   20 13 9\n22 21 19\n";
 
 /// What a call of the script left.
 struct Said {
@@ -112,6 +118,16 @@ fn all_false() -> String {
     format!("aag 19 10 0 5 9\n{inputs}38\n0\n0\n0\n0\n22 5 3\n{gates}")
 }
 
+/// Each row has a kind, a text, the line printed and the status, whether or not the line is explained.
+fn prints_and_ends(desk: &Path, rows: &[(&str, String, &str, i32)]) {
+    for (kind, text, line, status) in rows {
+        let said = asked(desk, &[kind, "-"], text);
+        said.has(line, *status);
+        assert_eq!(said.told, "", "no terminal and no --explain");
+        asked(desk, &["--explain", kind, "-"], text).has(line, *status);
+    }
+}
+
 #[test]
 fn script_prints_the_line_and_ends_with_its_status() {
     let desk = desk("lines");
@@ -139,12 +155,32 @@ fn script_prints_the_line_and_ends_with_its_status() {
         ("t", two_bits, "X 9\n", 3),
         ("u", String::new(), "X 1\n", 3),
     ];
-    for (kind, text, line, status) in rows {
-        let said = asked(&desk, &[kind, "-"], &text);
-        said.has(line, status);
-        assert_eq!(said.told, "", "no terminal and no --explain");
-        asked(&desk, &["--explain", kind, "-"], &text).has(line, status);
-    }
+    prints_and_ends(&desk, &rows);
+}
+
+#[test]
+fn script_prints_the_lines_of_the_kinds_that_add() {
+    let desk = desk("sums");
+    let rows = [
+        ("m", ADD.to_string(), "E 7 0\n", 0),
+        ("ms", ADD.to_string(), "E 7 0\n", 0),
+        // c_0 is left out, then c_1 and the carry into it.
+        (
+            "m",
+            ADD.replace("\n16\n22\n", "\n10\n8\n"),
+            "D 7 1 0 0 1 0 1\n",
+            1,
+        ),
+        (
+            "ms",
+            ADD.replace("\n16\n22\n", "\n16\n0\n"),
+            "D 7 2 0 0 2 0 2\n",
+            1,
+        ),
+        ("m", AND.to_string(), "X 9\n", 3),
+        ("ms", all_false(), "X 9\n", 3),
+    ];
+    prints_and_ends(&desk, &rows);
 }
 
 #[test]
@@ -159,6 +195,19 @@ fn script_explains_the_answers() {
     explained("u", &example("desk.aag"))
         .tells("for a = 1 and b = 0 the outputs show 1, and 0 is wanted\n");
     explained("s", &example("desk.aag")).tells("for a = -1 and b = 0 the outputs show 1");
+    explained("m", ADD).tells(
+        "m (multiply and add, plain): equal, the outputs are the product plus c for all operands",
+    );
+    explained("m", &ADD.replace("\n16\n22\n", "\n10\n8\n"))
+        .tells("for a = 0, b = 0 and c = 1 the outputs show 0, and 1 is wanted\n");
+    explained("ms", &ADD.replace("\n16\n22\n", "\n16\n0\n"))
+        .tells("for a = 0, b = 0 and c = 2 the outputs show 0, and 2 is wanted")
+        .tells("(as two's complement 0 and -2)");
+    explained("ms", AND)
+        .tells(
+            "ms (multiply and add, two's complement): refused with 9, kind unknown, or O is not l",
+        )
+        .tells("so do m and ms, whose inputs are a multiple of 4");
     explained("u", &without_gates(46)).tells("out of room, more than 512 terms at the start");
     explained("t", &all_false()).tells("out of room, more than 512 terms after step 9");
     assert_eq!(explained("u", AND).told.lines().count(), 1);
@@ -220,29 +269,67 @@ fn script_tells_words_of_64_bits_as_they_are() {
 }
 
 #[test]
+fn script_tells_c_as_a_plain_number_and_the_factors_of_ms_with_their_signs() {
+    let home = folder("operands");
+    // Of 64 inputs a and b have 16 bits, c and the words have 32.
+    let line = "D 0 1 65535 32768 4294967295 4294967294 2147483647";
+    let desk = program(home.join("desk"), &format!("echo '{line}'"));
+    let told = |kind: &str| asked(&desk, &[kind, "-", "--explain"], &without_gates(64)).told;
+    assert!(told("m").contains(
+        "for a = 65535, b = 32768 and c = 4294967295 the outputs show 4294967294, and 2147483647 is wanted\n"
+    ));
+    assert!(told("ms").contains(
+        "for a = -1, b = -32768 and c = 4294967295 the outputs show 4294967294, and 2147483647 is wanted \
+         (as two's complement -2 and 2147483647)\n"
+    ));
+}
+
+#[test]
 fn script_any_says_under_which_readings_the_block_is_right() {
     let desk = desk("any");
     let any = |text: &str| asked(&desk, &["any", "-"], text);
     any(AND)
-        .has("u E 1 0\ns E 1 0\nt X 9\n", 0)
+        .has("u E 1 0\ns E 1 0\nt X 9\nm X 9\nms X 9\n", 0)
         .tells("right under u and s; the netlist does not tell which is meant, and none is picked");
     any(&example("two-bit.aag"))
-        .has("u E 10 0\ns D 10 2 2 1 2 14\nt X 9\n", 0)
+        .has("u E 10 0\ns D 10 2 2 1 2 14\nt X 9\nm X 9\nms X 9\n", 0)
         .tells("the block is right under u\n");
     any("aag 3 2 0 1 1\n2\n4\n6\n6 4 2\n")
-        .has("u X 9\ns X 9\nt E 1 0\n", 0)
+        .has("u X 9\ns X 9\nt E 1 0\nm X 9\nms X 9\n", 0)
         .tells("the block is right under t\n");
     any(&example("desk.aag"))
-        .has("u D 1 3 1 0 1 0\ns D 1 3 1 0 1 0\nt X 9\n", 1)
+        .has(
+            "u D 1 3 1 0 1 0\ns D 1 3 1 0 1 0\nt X 9\nm X 9\nms X 9\n",
+            1,
+        )
         .tells("shown right under no reading\n");
     any(&all_false())
-        .has("u X 9\ns X 9\nt R 9 271\n", 2)
+        .has("u X 9\ns X 9\nt R 9 271\nm X 9\nms X 9\n", 2)
         .tells("shown right under no reading; not decided under t\n");
     any("")
-        .has("u X 1\ns X 1\nt X 1\n", 3)
+        .has("u X 1\ns X 1\nt X 1\nm X 1\nms X 1\n", 3)
         .tells("shown right under no reading\n");
     let explained = asked(&desk, &["--explain", "any", "-"], AND);
-    assert_eq!(explained.told.lines().count(), 4);
+    assert_eq!(explained.told.lines().count(), 6);
+}
+
+#[test]
+fn script_any_asks_the_readings_that_multiply_and_add() {
+    let desk = desk("any-adds");
+    let any = |text: &str| asked(&desk, &["any", "-"], text);
+    // Under t x1 x2 + x3 + 2 x4 is shown and x1 x3 + 2 x1 x4 + 2 x2 x3 is wanted.
+    any(ADD)
+        .has("u X 9\ns X 9\nt D 7 6 0 1 1 0\nm E 7 0\nms E 7 0\n", 0)
+        .tells(
+            "right under m and ms; the netlist does not tell which is meant, and none is picked",
+        );
+    // x3 + 2 x4 is shown: under t these and the three products are left, under m and ms ab.
+    any("aag 4 4 0 2 0\n2\n4\n6\n8\n6\n8\n")
+        .has(
+            "u X 9\ns X 9\nt D 0 5 0 1 1 0\nm D 0 1 1 1 0 0 1\nms D 0 1 1 1 0 0 1\n",
+            1,
+        )
+        .tells("shown right under no reading\n");
 }
 
 #[test]
@@ -264,27 +351,46 @@ fn script_takes_nothing_but_a_line_of_document_01_for_an_answer() {
         "E 1",
         "E 1 0 0",
         "D 1 3 1 0 1",
+        "D 1 3 1 0 0 1 0 0",
         "X",
         "X 09 ",
         "e 1 0",
     ] {
         let desk = program(home.join("desk"), &format!("echo '{line}'"));
-        for kind in ["u", "any"] {
+        for kind in ["u", "m", "ms", "any"] {
             asked(&desk, &[kind, "-"], AND)
                 .has("", 4)
                 .tells("the desk program gave no answer");
         }
     }
+    // D has a number more where c is added, and nowhere else.
+    let line = |numbers: &str| {
+        let desk = program(home.join("desk"), &format!("echo '{numbers}'"));
+        move |kind: &str| asked(&desk, &[kind, "-"], AND)
+    };
+    let six = line("D 1 3 1 0 1 0");
+    six("t").has("D 1 3 1 0 1 0\n", 1);
+    six("m").has("", 4);
+    six("ms").has("", 4);
+    let seven = line("D 1 3 1 0 0 1 0");
+    seven("ms").has("D 1 3 1 0 0 1 0\n", 1);
+    seven("u").has("", 4);
+    seven("s").has("", 4);
 }
 
 #[test]
 fn script_says_what_to_do_when_it_is_misused() {
     let desk = desk("misuse");
-    let rows: [(&[&str], &str); 8] = [
+    let rows: [(&[&str], &str); 10] = [
         (&[], "a kind and a file are wanted, as in: judge u FILE"),
         (&["u"], "a kind and a file are wanted"),
         (&["u", "-", "-"], "a kind and a file are wanted"),
-        (&["x", "-"], "unknown kind 'x': it has to be u, s, t or any"),
+        (
+            &["x", "-"],
+            "unknown kind 'x': it has to be u, s, t, m, ms or any",
+        ),
+        (&["sm", "-"], "unknown kind 'sm'"),
+        (&["mx", "-"], "unknown kind 'mx'"),
         (&["U", "-"], "unknown kind 'U'"),
         (&["--loud", "u", "-"], "unknown option --loud"),
         (&["u", "no such file"], "cannot read 'no such file'"),

@@ -3,7 +3,9 @@ use netlist::counts::counts_wrong;
 use netlist::counts::table_short;
 use netlist::table::table_unsound;
 use product::kind_unknown;
+use product::operand_bits;
 use product::outputs;
+use product::shares;
 use rules::counts::Counts;
 use rules::limits::Limits;
 use rules::limits::Made;
@@ -25,7 +27,7 @@ pub struct Lent {
     pub log: usize,
 }
 
-// Whether the kind is unknown, or O is not l.
+// Whether the kind is unknown, or the block has not the inputs or the outputs of the kind.
 fn kind_wrong(c: Counts, kind: u32) -> bool
     requires { ⌜ counts-right c ≡ true ⌝ }
     ensures { λ r. ⌜ r ≡ kind-wrong c kind ⌝ }
@@ -33,7 +35,7 @@ fn kind_wrong(c: Counts, kind: u32) -> bool
     if kind_unknown(kind) {
         return true;
     }
-    c.o != outputs(kind, c.i / 2)
+    (c.i % shares(kind) != 0) | (c.o != outputs(kind, operand_bits(c, kind)))
 }
 
 // Whether every step names a gate.

@@ -4,12 +4,12 @@ use mathlib.Core.Path.{_≡_, sym, _∙_}
 use mathlib.Core.Bool.{false}
 use mathlib.Core.List.{List, []}
 use mathlib.Core.Logic.{_⊎_, inl, inr, ⊎-elim}
-use Prim.Native.Nat.{ℕ, suc, _+_, _^_, _<_, _≤_}
+use Prim.Native.Nat.{ℕ, suc, _+_, _*_, _^_, _<_, _≤_}
 use native.Mathlib.Omega.{arith}
 use lib.ListN.{length, getD}
 use Rattle.rules.specs.Netlist.{record-at, EveryVariable, reads}
-use Rattle.rules.specs.Values.{width, bit}
-use Rattle.rules.specs.Product.{Kind}
+use Rattle.rules.specs.Values.{bit}
+use Rattle.rules.specs.Product.{Kind, operand-width, addend-width}
 use Rattle.rules.specs.Polynomial.{Term, Polynomial}
 use Rattle.rules.specs.Steps.{modulus, start-terms, start, step, trail, run, after}
 use Rattle.rules.specs.declared.counts.Counts.{Counts}
@@ -77,7 +77,7 @@ false-absent kind c table order =
     trail-keeps (λ j. Absent 0) m c table order
     (λ j l p none. step-absent m c table 0 (getD order j 0) p (any-variable (Joins (Lacks 0)) other (record-at c table (getD order j 0))) (inl none))
     (start kind c table)
-    (all-gather (Lacks 0) m (start-terms kind c table) (all-start (Lacks 0) kind c table (bit-none 0) (λ i l. other _) two))
+    (all-gather (Lacks 0) m (start-terms kind c table) (all-start (Lacks 0) kind c table (bit-none 0) (λ i l. other _) two one))
   where
     m : ℕ
     m = modulus kind c
@@ -85,7 +85,13 @@ false-absent kind c table order =
     other : (v : ℕ) → Joins (Lacks 0) v
     other v = lacks-joins 0 v (λ l e. omega arith)
 
-    two : (i j : ℕ) → i < width c → j < width c → Lacks 0 (2 ^ (1 + i) + 2 ^ (width c + 1 + j))
+    n : ℕ
+    n = operand-width kind c
+
+    two : (i j : ℕ) → i < n → j < n → Lacks 0 (2 ^ (1 + i) + 2 ^ (n + 1 + j))
     two i j k l =
-        bit-put (2 ^ (1 + i)) (width c + 1 + j) 0 (bit-other (1 + i) (width c + 1 + j) (λ e. omega arith)) (λ e. omega arith)
+        bit-put (2 ^ (1 + i)) (n + 1 + j) 0 (bit-other (1 + i) (n + 1 + j) (λ e. omega arith)) (λ e. omega arith)
         ∙ bit-other (1 + i) 0 (λ e. omega arith)
+
+    one : (i : ℕ) → i < addend-width kind n → Lacks 0 (2 ^ (2 * n + 1 + i))
+    one i l = bit-other (2 * n + 1 + i) 0 (λ e. omega arith)

@@ -14,10 +14,10 @@ pub honest-decides : HonestDecides
 unfolding says
 honest-decides x (Equal steps terms) answered roomy h =
     ((λ right. (steps, terms, refl)), (λ wrong. absurd (wrong (equal-right x steps terms answered))))
-honest-decides x (Differs steps terms a b g w) answered roomy h =
-    let least = differs-right x steps terms a b g w answered in (
-      (λ right. absurd (least .wrong (least .evaluated ∙ right a b (least .first) (least .second) ∙ sym (least .read)))),
-      (λ wrong. (steps, terms, a, b, g, w, refl)),
+honest-decides x (Differs steps terms a b c g w) answered roomy h =
+    let least = differs-right x steps terms a b c g w answered in (
+      (λ right. absurd (least .wrong (least .evaluated ∙ right a b c (least .operands) ∙ sym (least .read)))),
+      (λ wrong. (steps, terms, a, b, c, g, w, refl)),
     )
 honest-decides x (OutOfRoom step terms) answered roomy h =
     let due = room-exact x (OutOfRoom step terms) answered step terms .0 refl in

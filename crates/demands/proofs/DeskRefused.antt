@@ -1,25 +1,25 @@
 -- The desk prints `X k` exactly for what is unfit, with the number of the first check that it fails.
 use mathlib.Core.Path.{_≡_, refl, ap, sym, _∙_}
-use mathlib.Core.Bool.{Bool, true, false, _&&_, true≢false}
-use mathlib.Core.List.{List, [], _∷_, nil≢cons, head-eq-of-cons-eq, tail-eq-of-cons-eq}
-use Prim.Native.Nat.{ℕ, zero, suc, _-_, _<_, _≤_}
+use mathlib.Core.Bool.{Bool, true, false}
+use mathlib.Core.List.{List, []}
+use Prim.Native.Nat.{ℕ, zero, suc, _-_, _≤_}
 use native.Mathlib.Omega.{arith}
-use lib.Dec.{ltb, eqb}
+use lib.Dec.{ltb}
 use lib.ListN.{length, getD, replicate}
-use lib.Seq.{take-at}
-use borrow.Author.Tests.{lt-ltb, le-ltb, eq-eqb, ltb-true, ltb-false, eqb-true}
+use lib.Seq.{take-at, drop-at}
+use borrow.Author.Tests.{lt-ltb, le-ltb, ltb-true, ltb-false}
 use Rattle.rules.specs.Says.{Says, refuses, answers}
 use Rattle.rules.specs.Limits.{most-desk-bytes, most-desk-variables, desk-terms}
-use Rattle.rules.specs.Product.{kind-of}
+use Rattle.rules.specs.Product.{kind-of, adds}
 use Rattle.rules.specs.Judging.{Inputs, judge-checks, verdict}
-use Rattle.rules.specs.Text.{line-feed}
 use Rattle.rules.specs.Reading.{Netlist, netlist, refused, reading}
-use Rattle.rules.specs.Desk.{line-room, desk-table, falling, desk-checks, desk-judging, desk-sized, desk-read, kind-named, desk-kind, desk-lines, desk-long, desk-says, letter, printed, desk-line}
+use Rattle.rules.specs.Desk.{line-room, desk-table, falling, desk-checks, desk-judging, desk-sized, desk-read, kind-line, kind-asked, desk-kind, desk-lines, desk-long, desk-says, letter, printed, told, desk-line}
 use Rattle.rules.specs.declared.counts.Counts.{Counts}
-use Rattle.rules.proofs.Indices.{both, and-both}
 use Rattle.demands.specs.Netlists.{Written}
 use Rattle.demands.specs.Refusals.{First, Asked, DeskUnfit, long, kindless, unread, large, unjudged, line-of, DeskRefusedExact}
 use Rattle.demands.proofs.Readings.{Outcome, said, written-read, unread-refused}
+use Rattle.demands.proofs.KindLines.{text-behind, asked, asks}
+use Rattle.demands.proofs.Passed.{apart}
 use Rattle.demands.proofs.Refused.{refused-exact}
 use Rattle.demands.proofs.Verdicts.{verdict-answers}
 
@@ -44,12 +44,6 @@ unfolding desk-judging desk-checks judge-checks handed
 judging-exact kind c table k =
     refused-exact (desk-checks kind c table) (verdict (kind-of kind) c table desk-terms (falling c)) (omega arith)
     (λ i h. verdict-answers (handed kind c table) i (sym h)) k
-
--- the byte and the line feed of a kind line
-asked : (x end : ℕ) (text : List ℕ) → (ltb (kind-named x) 3 && eqb end line-feed) ≡ true → Asked (x ∷ end ∷ text) (kind-named x) text
-asked x end text h =
-    let parts = both (ltb (kind-named x) 3) (eqb end line-feed) h in
-    (x, refl, ltb-true (kind-named x) 3 (parts .0), rw (eqb-true end line-feed (parts .1)))
 
 module _ (input : List ℕ) (short : length input ≤ most-desk-bytes) where
   -- where a netlist is read, it is too large or judged
@@ -77,27 +71,18 @@ no-kind : (input : List ℕ) → length input ≤ most-desk-bytes → ((kind : �
     → (k : ℕ) → refuses 9 ≡ refuses k → DeskUnfit input k
 no-kind input short none k h = let same : 9 ≡ k = cc in rw same at (kindless short none)
 
--- the two bytes of a kind line pass their test
-kind-tested : (x end : ℕ) (rest : List ℕ) (kind : ℕ) (text : List ℕ) → Asked (x ∷ end ∷ rest) kind text
-    → (ltb (kind-named x) 3 && eqb end line-feed) ≡ true
-kind-tested x end rest kind text a =
-    let byte : x ≡ a .0 = head-eq-of-cons-eq (a .3) in
-    let last : end ≡ line-feed = head-eq-of-cons-eq (tail-eq-of-cons-eq (a .3)) in
-    let named : kind-named x < 3 = rw (byte, a .1) (a .2) in
-    and-both (ltb (kind-named x) 3) (eqb end line-feed) (lt-ltb (kind-named x) 3 named) (eq-eqb end line-feed last)
-
 -- a short input: what is refused is unfit
 lines-unfit : (input : List ℕ) → length input ≤ most-desk-bytes → (k : ℕ) → desk-lines input ≡ refuses k → DeskUnfit input k
 unfolding desk-lines desk-kind
-lines-unfit [] short k h = no-kind [] short (λ kind text a. nil≢cons (a .3)) k h
-lines-unfit (x ∷ []) short k h = no-kind (x ∷ []) short (λ kind text a. nil≢cons (tail-eq-of-cons-eq (a .3))) k h
-lines-unfit (x ∷ end ∷ text) short k h = go (ltb (kind-named x) 3 && eqb end line-feed) refl h
+lines-unfit input short k h = go (ltb (kind-asked input) 5) refl h
   where
-    go : (t : Bool) → (ltb (kind-named x) 3 && eqb end line-feed) ≡ t → desk-kind (kind-named x) text t ≡ refuses k → DeskUnfit (x ∷ end ∷ text) k
-    go true e h = read (x ∷ end ∷ text) short (kind-named x) text (asked x end text e) (reading desk-table text) (said desk-table text) k h
+    go : (t : Bool) → ltb (kind-asked input) 5 ≡ t → desk-kind (kind-asked input) (text-behind input) t ≡ refuses k → DeskUnfit input k
+    go true e h =
+        read input short (kind-asked input) (text-behind input) (asked input (ltb-true (kind-asked input) 5 e))
+        (reading desk-table (text-behind input)) (said desk-table (text-behind input)) k h
     go false e h =
-        no-kind (x ∷ end ∷ text) short
-        (λ kind rest a. true≢false (sym (kind-tested x end text kind rest a) ∙ e)) k h
+        no-kind input short
+        (λ kind text a. omega (arith, ltb-false (kind-asked input) 5 e, asks input kind text a, a .0)) k h
 
 -- what the desk refuses is unfit
 desk-unfit : (input : List ℕ) (k : ℕ) → desk-says input ≡ refuses k → DeskUnfit input k
@@ -120,18 +105,15 @@ short-says input short = rw (le-ltb most-desk-bytes (length input) short)
 lines-asked : (input : List ℕ) (kind : ℕ) (text : List ℕ) → Asked input kind text → desk-lines input ≡ desk-read kind (reading desk-table text)
 unfolding desk-lines desk-kind
 lines-asked input kind text a =
-    let tested = kind-tested (a .0) line-feed text kind text (a .0, a .1, a .2, refl) in
-    rw (a .3, tested, a .1)
+    rw (asks input kind text a, lt-ltb kind 5 (a .0), a .1, drop-at (kind-line kind) text (length (kind-line kind)) refl)
 
--- where no kind is named, 9
+-- where no kind is asked, 9
 lines-kindless : (input : List ℕ) → ((kind : ℕ) (text : List ℕ) → Asked input kind text → ⊥) → desk-lines input ≡ refuses 9
 unfolding desk-lines desk-kind
-lines-kindless [] none = refl
-lines-kindless (x ∷ []) none = refl
-lines-kindless (x ∷ end ∷ text) none = go (ltb (kind-named x) 3 && eqb end line-feed) refl
+lines-kindless input none = go (ltb (kind-asked input) 5) refl
   where
-    go : (t : Bool) → (ltb (kind-named x) 3 && eqb end line-feed) ≡ t → desk-kind (kind-named x) text t ≡ refuses 9
-    go true e = absurd (none (kind-named x) text (asked x end text e))
+    go : (t : Bool) → ltb (kind-asked input) 5 ≡ t → desk-kind (kind-asked input) (text-behind input) t ≡ refuses 9
+    go true e = absurd (none (kind-asked input) (text-behind input) (asked input (ltb-true (kind-asked input) 5 e)))
     go false e = refl
 
 -- what is unfit is refused
@@ -162,15 +144,25 @@ unfolding printed
 refusal-printed (refuses k) h = (k, refl)
 refusal-printed (answers k numbers) h = absurd (letter-apart k h)
 
+-- what is printed is a refusal just where it is said
+told-refused : (adding : Bool) (s : Says) (k : ℕ) → (s ≡ refuses k → told adding s ≡ refuses k) × (told adding s ≡ refuses k → s ≡ refuses k)
+unfolding told
+told-refused true (refuses j) k = ((λ e. e), (λ e. e))
+told-refused false (refuses j) k = ((λ e. e), (λ e. e))
+told-refused true (answers j numbers) k = ((λ e. e), (λ e. e))
+told-refused false (answers j numbers) k = ((λ e. apart j k numbers e), (λ e. apart j k _ e))
+
 -- the desk prints `X k` for what is unfit, and for nothing else
 pub desk-refused-exact : DeskRefusedExact
 unfolding desk-line
 desk-refused-exact input r lined =
+    let adding = adds (kind-of (kind-asked input)) in
     let line : line-of r ≡ desk-line input =
     rw (lined .len, lined .bytes) (take-at (desk-line input) (replicate (line-room - length (desk-line input)) 0) (length (desk-line input)) refl)
     in (
-      (λ k u. line ∙ ap printed (unfit-refused input k u)),
+      (λ k u. line ∙ ap printed (told-refused adding (desk-says input) k .0 (unfit-refused input k u))),
       (λ x.
-          let known = refusal-printed (desk-says input) (rw line at x) in
-          (known .0, desk-unfit input (known .0) (known .1), line ∙ ap printed (known .1))),
+          let known = refusal-printed (told adding (desk-says input)) (rw line at x) in
+          let refused = told-refused adding (desk-says input) (known .0) .1 (known .1) in
+          (known .0, desk-unfit input (known .0) refused, line ∙ ap printed (known .1))),
     )

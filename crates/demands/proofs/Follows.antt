@@ -9,7 +9,7 @@ use native.Mathlib.Omega.{arith}
 use lib.Arith.{lt-one}
 use lib.Count.{ones, ones-step}
 use lib.Dec.{leb}
-use lib.ListN.{length}
+use lib.ListN.{length, getD}
 use borrow.Author.Tests.{leb-true, leb-false}
 use Rattle.rules.specs.Each.{listed}
 use Rattle.rules.specs.Values.{bit}
@@ -33,6 +33,12 @@ pub follows-listed : (n u : ℕ) → Follows (listed n (bit u)) u
 unfolding listed
 follows-listed zero u = tt
 follows-listed (suc n) u = follows-next (listed n (bit u)) (bit u n) u (follows-listed n u) (ap (bit u) (sym (length-listed n (bit u))))
+
+-- an entry is its digit
+pub follows-bit : (values : List ℕ) (u v : ℕ) → Follows values u → v < length values → getD values v 0 ≡ bit u v
+follows-bit [] u v f l = absurd (omega arith)
+follows-bit (x ∷ values) u zero f l = f .0 ∙ sym (bit-first u)
+follows-bit (x ∷ values) u (suc v) f l = follows-bit values (u / 2) v (f .1) (omega arith) ∙ sym (bit-next u v)
 
 -- the digits of b behind those of a
 pub follows-append : (values more : List ℕ) (a b : ℕ) → a < 2 ^ length values → Follows values a → Follows more b

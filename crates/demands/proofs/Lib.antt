@@ -15,11 +15,14 @@ pub mod Follows
 -- the values of a netlist's variables
 pub mod Assigned
 pub mod Gates
+pub mod Pairs
+pub mod Places
 -- the start polynomial, and what the steps keep
 pub mod Times
 pub mod Operands
 pub mod Published
 pub mod StartValue
+pub mod Addend
 pub mod RecordValue
 pub mod StepKeeps
 pub mod Idle
@@ -31,7 +34,6 @@ pub mod Passed
 pub mod TermLimit
 pub mod Verdicts
 pub mod Soonest
-pub mod Pairs
 pub mod Right
 pub mod Room
 pub mod Honest
@@ -40,6 +42,7 @@ pub mod Decides
 -- refusals
 pub mod ReadRefused
 pub mod Refused
+pub mod KindLines
 pub mod DeskRefused
 pub mod DeskTable
 -- stand-ins that are shut out

@@ -1,69 +1,36 @@
--- An operand pair as the set of the variables that are 1 there, and the value of a polynomial of input variables at the pair.
+-- The two words that hold the inputs as the set of the variables that are 1 there, and the value of a polynomial of input variables at them.
 use mathlib.Core.Path.{_≡_, refl, ap, sym, _∙_}
 use mathlib.Core.List.{List, [], _∷_, _++_, append-assoc, append-nil}
 use mathlib.Core.Logic.{inl, inr}
-use Prim.Native.Nat.{ℕ, zero, suc, _+_, _*_, _/_, _%_, _^_, _<_}
-use native.Mathlib.Nat.{add-comm, mul-comm, mul-zero, mul-one, zero-add, pow-succ', mod-lt, mod-add-div}
+use Prim.Native.Nat.{ℕ, zero, suc, _+_, _*_, _/_, _^_, _<_}
+use native.Mathlib.Nat.{mul-comm, mul-zero, mul-one, zero-add, pow-succ'}
 use native.Mathlib.Omega.{arith}
 use lib.Arith.{digits-lt}
-use lib.Count.{ones, ones-step, ones-cat}
-use lib.ListN.{length}
-use lib.Pow.{pow-pos, pow-add, shr-lt}
+use lib.ListN.{length, getD, List·getD-append}
+use lib.Pow.{pow-add}
 use Rattle.rules.specs.Each.{listed}
 use Rattle.rules.specs.Values.{width, bit, input-values, gate-value, values-to, values}
 use Rattle.rules.specs.Polynomial.{Polynomial, Coefficients, hit, coefficient-at}
 use Rattle.rules.specs.Netlist.{gate}
-use Rattle.rules.specs.Judging.{pair-a, pair-b}
 use Rattle.rules.specs.declared.counts.Counts.{Counts}
 use Rattle.rules.proofs.Indices.{length-listed}
 use Rattle.rules.proofs.Terms.{hit-same, hit-other}
 use Rattle.rules.proofs.All.{all-map}
 use Rattle.rules.proofs.AllSets.{AllSets}
-use Rattle.rules.proofs.Bits.{bit-first}
-use Rattle.demands.specs.Answers.{Before}
 use Rattle.demands.specs.Polynomials.{set-value, value}
-use Rattle.demands.proofs.Absent.{Lacks}
 use Rattle.demands.proofs.Assigned.{length-inputs}
-use Rattle.demands.proofs.Follows.{Follows, follows-listed, follows-append, set-value-front, set-value-own, At, set-value-at}
-use Rattle.demands.proofs.Soonest.{NotAfter, Earlier}
+use Rattle.demands.proofs.Follows.{Follows, follows-bit, follows-listed, follows-append, set-value-front, set-value-own, At, set-value-at}
+use Rattle.demands.proofs.Soonest.{NotAfter}
 
--- the set of the variables that are 1 for the operand pair a, b
+-- the set of the variables that are 1 for the words a, b
 abbrev pub pair-set : ℕ → ℕ → ℕ → ℕ
 pair-set n a b = 2 * (a + 2 ^ n * b)
-
--- it has as many variables as the pair has 1 bits
-pair-ones : (n a b : ℕ) → a < 2 ^ n → ones (pair-set n a b) ≡ ones a + ones b
-pair-ones n a b h =
-    let low : pair-set n a b % 2 ≡ 0 = omega arith in
-    let half : pair-set n a b / 2 ≡ b * 2 ^ n + a = omega (arith, mul-comm b (2 ^ n)) in
-    rw (ones-step, low, half, zero-add, ones-cat n b a h) (add-comm (ones b) (ones a))
-
--- of two pairs the one that comes before has the set that comes before
-pub pair-earlier : (n a b d e : ℕ) → a < 2 ^ n → d < 2 ^ n → Before n a b d e → Earlier (pair-set n a b) (pair-set n d e)
-pair-earlier n a b d e h k (inl fewer) = inl (rw (pair-ones n a b h, pair-ones n d e k) fewer)
-pair-earlier n a b d e h k (inr less) = inr (rw (pair-ones n a b h, pair-ones n d e k) (less .0), omega arith)
 
 -- a pair's set is one of input variables
 pair-below : (n a b : ℕ) → a < 2 ^ n → b < 2 ^ n → pair-set n a b < 2 ^ suc (n + n)
 pair-below n a b h k =
     let l : b * 2 ^ n + a < 2 ^ n * 2 ^ n = digits-lt k h in
     omega (arith, mul-comm b (2 ^ n), pow-add 2 n n, pow-succ' 2 (n + n))
-
--- the pair that is named for a set is an operand pair, and the set is its own
-pub record PairOf (n s : ℕ) : Type 0 where
-  pub first : pair-a n s < 2 ^ n
-  pub second : pair-b n s < 2 ^ n
-  pub set : pair-set n (pair-a n s) (pair-b n s) ≡ s
-
--- so it is for every set of input variables
-pub pair-of : (n s : ℕ) → Lacks 0 s → s < 2 ^ suc (n + n) → PairOf n s
-unfolding pair-a pair-b
-pair-of n s even below =
-    record {
-      first = mod-lt (s / 2) (pow-pos n);
-      second = shr-lt n n (omega (arith, pow-succ' 2 (n + n)));
-      set = omega (arith, mod-add-div (s / 2) (2 ^ n), sym (bit-first s) ∙ even);
-    }
 
 -- the inputs' values are the digits of the pair's set
 input-follows : (n a b : ℕ) → a < 2 ^ n → Follows (input-values n a b) (pair-set n a b)
@@ -84,6 +51,16 @@ values-front c table a b (suc k) =
     (before .0 ++ last, ap (λ (list : List ℕ). list ++ last) (before .1) ∙ append-assoc (input-values (width c) a b) (before .0) last)
 
 module _ (c : Counts) (table : List ℕ) (a b : ℕ) where
+  -- the value of an input is its digit in the set
+  pub input-bit : a < 2 ^ width c → (v : ℕ) → v < suc (width c + width c) → getD (values c table a b) v 0 ≡ bit (pair-set (width c) a b) v
+  unfolding values
+  input-bit h v l =
+      let front = values-front c table a b (c .a) in
+      let inside : v < length (input-values (width c) a b) = rw length-inputs l in
+      rw (front .1)
+      (List·getD-append (input-values (width c) a b) (front .0) 0 v inside
+      ∙ follows-bit (input-values (width c) a b) (pair-set (width c) a b) v (input-follows (width c) a b h) inside)
+
   -- a set of input variables has the value that it has at the inputs
   inputs-decide : (t : ℕ) → t < 2 ^ suc (width c + width c) → set-value (values c table a b) t ≡ set-value (input-values (width c) a b) t
   unfolding values

@@ -1,18 +1,18 @@
 -- An answer says that nothing is refused; and then every check passed.
 use mathlib.Core.Path.{_≡_, refl}
-use mathlib.Core.Bool.{Bool, true, false, _||_, true≢false}
+use mathlib.Core.Bool.{Bool, true, false}
 use mathlib.Core.List.{List, _∷_}
 use Prim.Native.Nat.{ℕ, zero, suc, _≤_}
 use native.Mathlib.Omega.{arith}
 use lib.ListN.{length}
-use borrow.Author.Tests.{eqb-true, ltb-false, not-false}
+use borrow.Author.Tests.{ltb-false, not-false}
 use Rattle.rules.specs.Each.{every}
 use Rattle.rules.specs.Says.{Says, refuses, answers, first, refuse-or}
 use Rattle.rules.specs.Limits.{terms-wrong, steps-wrong}
 use Rattle.rules.specs.Netlist.{counts-right, counts-wrong, needed, table-short, table-sound, table-unsound}
-use Rattle.rules.specs.Values.{width}
-use Rattle.rules.specs.Product.{kind-of, kind-unknown, outputs-of}
-use Rattle.rules.specs.Judging.{Inputs, kind-wrong, is-gate, order-wrong, lent-short, judge-checks, checks, refusal}
+use Rattle.rules.specs.Product.{kind-of, kind-unknown}
+use Rattle.rules.specs.Judging.{Inputs, misfits, kind-wrong, is-gate, order-wrong, lent-short, judge-checks, checks, refusal}
+use Rattle.rules.proofs.Indices.{neither}
 
 -- an answer is no refusal
 pub apart : {A : Type 0} (number k : ℕ) (given : List ℕ) → answers number given ≡ refuses k → A
@@ -31,7 +31,7 @@ pub record Passed (x : Inputs) : Type 0 where
   pub words : needed (x .counts) ≤ length (x .table)
   pub sound : table-sound (x .counts) (x .table) ≡ true
   pub kind : kind-unknown (x .kind) ≡ false
-  pub outputs : x .counts .o ≡ outputs-of (kind-of (x .kind)) (width (x .counts))
+  pub fitting : misfits (x .counts) (kind-of (x .kind)) ≡ false
   pub limit : terms-wrong (x .limit) ≡ false
   pub steps : steps-wrong (length (x .order)) ≡ false
   pub gates : every (is-gate (x .counts)) (x .order) ≡ true
@@ -42,11 +42,6 @@ pub none-holds : (k : ℕ) (t : Bool) (later : List (ℕ × Bool)) → first ((s
 unfolding first
 none-holds k true later h = absurd (omega arith)
 none-holds k false later h = (refl, h)
-
--- both parts of a test that fails
-either : (a b : Bool) → (a || b) ≡ false → (a ≡ false) × (b ≡ false)
-either true b h = absurd (true≢false h)
-either false b h = (refl, h)
 
 -- nothing is refused: every check passed
 pub passed : (x : Inputs) → refusal x ≡ 0 → Passed x
@@ -59,14 +54,14 @@ passed x h =
     let limit = none-holds 9 _ _ (kind .1) in
     let order = none-holds 10 _ _ (limit .1) in
     let lent = none-holds 11 _ _ (order .1) in
-    let kinds = either _ _ (kind .0) in
-    let steps = either _ _ (order .0) in
+    let kinds = neither _ _ (kind .0) in
+    let steps = neither _ _ (order .0) in
     record {
       counts = not-false _ (counts .0);
       words = ltb-false _ _ (words .0);
       sound = not-false _ (sound .0);
       kind = kinds .0;
-      outputs = eqb-true _ _ (not-false _ (kinds .1));
+      fitting = kinds .1;
       limit = limit .0;
       steps = steps .0;
       gates = not-false _ (steps .1);

@@ -1,5 +1,6 @@
 -- The published specifications, gathered modulo 2^l, are the start polynomial.
 use mathlib.Core.Path.{_≡_, refl, ap, sym, _∙_}
+use mathlib.Core.Bool.{Bool, true, false}
 use mathlib.Core.List.{List, [], _∷_, _++_, append-nil}
 use Prim.Native.Nat.{ℕ, zero, suc, _+_, _-_, _*_, _%_, _^_, _<_, _≤_}
 use native.Mathlib.Nat.{add-comm, add-zero, add-mul, mul-add, mul-assoc, mul-zero, zero-add, add-mod-mod, mul-mod-right, one-le-pow, two-pow-succ}
@@ -7,27 +8,25 @@ use native.Mathlib.Omega.{arith}
 use lib.Pow.{pow-add}
 use Rattle.rules.specs.Each.{sum, joined}
 use Rattle.rules.specs.Netlist.{variable, inverted, output}
-use Rattle.rules.specs.Values.{width}
-use Rattle.rules.specs.Product.{Kind, plain, signed, truncated, outputs-of}
-use Rattle.rules.specs.Polynomial.{Polynomial, hit, with-variable, times-variable, times-literal}
+use Rattle.rules.specs.Product.{Kind, plain, signed, truncated, multiply-add, multiply-add-signed, complement, operand-width, addend-width, outputs-of}
+use Rattle.rules.specs.Polynomial.{Polynomial, hit, minus, with-variable, times-variable, times-literal}
 use Rattle.rules.specs.Steps.{modulus, start-terms, start}
 use Rattle.rules.proofs.Indices.{sum-same}
 use Rattle.rules.proofs.Gathered.{gather-same}
-use Rattle.rules.proofs.Sound.{right-counts}
+use Rattle.rules.proofs.Places.{fits}
 use Rattle.rules.proofs.Remainders.{same-add, same-mul, opposite, same-cancel, sum-mod, sum-factor}
-use Rattle.rules.proofs.Weighed.{weighed, weighed-coefficient, weighed-append, weighed-joined, weighed-one}
-use Rattle.demands.specs.Polynomials.{times, minus, plain-operand, signed-operand, plain-outputs, specification, Published}
-use Rattle.demands.proofs.Times.{weighed-times, weighed-minus}
-use Rattle.demands.proofs.Operands.{operand-sum, product-sum, modulus-positive, plain-sum, truncated-sum, weighed-plain-operand, weighed-signed-operand, weighed-start}
+use Rattle.rules.proofs.Weighed.{weighed, weighed-coefficient, weighed-append, weighed-joined, weighed-one, weighed-minus}
+use Rattle.demands.specs.Polynomials.{times, plain-operand, signed-operand, plain-outputs, published-outputs, operand-product, published-product, published-specification, Published}
+use Rattle.demands.proofs.Times.{weighed-times}
+use Rattle.demands.proofs.Operands.{operand-sum, product-sum, addend-sum, specified-sum, modulus-positive, plain-sum, weighed-plain-operand, weighed-signed-operand, weighed-start}
 
 -- the product of two operands weighed
-weighed-operands : (kind : Kind) (m n : ℕ) (weight : ℕ → ℕ) (operand : ℕ → Polynomial)
-    → ((v : ℕ) (weight : ℕ → ℕ) → weighed weight (operand v) ≡ operand-sum kind m n (λ i. weight (2 ^ (v + i))))
-    → weighed weight (minus m (times (operand 1) (operand (n + 1)))) ≡ (m - 1) * product-sum kind m n weight
+weighed-operands : (two : Bool) (m n : ℕ) (weight : ℕ → ℕ) (operand : ℕ → Polynomial)
+    → ((v : ℕ) (weight : ℕ → ℕ) → weighed weight (operand v) ≡ operand-sum two m n (λ i. weight (2 ^ (v + i))))
+    → weighed weight (times (operand 1) (operand (n + 1))) ≡ product-sum two m n weight
 unfolding product-sum
-weighed-operands kind m n weight operand law =
-    rw (weighed-minus weight m (times (operand 1) (operand (n + 1))), weighed-times weight (operand 1) (operand (n + 1)), law 1)
-    (simp (law (n + 1)))
+weighed-operands two m n weight operand law =
+    rw (weighed-times weight (operand 1) (operand (n + 1)), law 1) (simp (law (n + 1)))
 
 -- a literal times half of m has only multiples of that half
 half-turned : (m half : ℕ) (weight : ℕ → ℕ) (v k : ℕ) → half + half ≡ m
@@ -71,18 +70,18 @@ power-one weight i j s = rw (weighed-one weight (2 ^ (i + j)) s, pow-add 2 i j, 
 -- the truncated product weighed: what is left out is 0 modulo 2^n
 weighed-truncated : (n : ℕ) (weight : ℕ → ℕ)
     → weighed weight (joined n (λ i. joined (n - i) (λ j. (2 ^ (i + j), 2 ^ (1 + i) + 2 ^ (n + 1 + j)) ∷ []))) % 2 ^ n
-    ≡ product-sum truncated (2 ^ n) n weight % 2 ^ n
+    ≡ product-sum false (2 ^ n) n weight % 2 ^ n
 unfolding product-sum
 weighed-truncated n weight =
-    rw (weighed-joined weight n _, truncated-sum (2 ^ n) n _) (sum-mod (2 ^ n) n _ _ row)
+    rw (weighed-joined weight n _, plain-sum (2 ^ n) n _) (sum-mod (2 ^ n) n _ _ row)
   where
     row : (i : ℕ) → i < n → weighed weight (joined (n - i) (λ j. (2 ^ (i + j), 2 ^ (1 + i) + 2 ^ (n + 1 + j)) ∷ [])) % 2 ^ n
-        ≡ (2 ^ i * operand-sum truncated (2 ^ n) n (λ j. weight (2 ^ (1 + i) + 2 ^ (n + 1 + j)))) % 2 ^ n
+        ≡ (2 ^ i * operand-sum false (2 ^ n) n (λ j. weight (2 ^ (1 + i) + 2 ^ (n + 1 + j)))) % 2 ^ n
     row i l =
         let whole : i + (n - i) ≡ n = omega arith in
         rw (
           weighed-joined weight (n - i) _,
-          truncated-sum (2 ^ n) n _,
+          plain-sum (2 ^ n) n _,
           ← sum-factor n (2 ^ i),
           sum-same (n - i) _ _ (λ j k. power-one weight i j (2 ^ (1 + i) + 2 ^ (n + 1 + j))),
         )
@@ -101,46 +100,80 @@ signed-outputs m l table weight positive e =
     )
     (same-add m _ _ _ _ (top-output m l (output table l) weight positive e) refl)
 
--- a specification weighed: the outputs less the product of the operands' bits
+-- the published outputs weigh as the plain ones
+weighed-outputs : (two : Bool) (m l : ℕ) (table : List ℕ) (weight : ℕ → ℕ) → 0 < l → m ≡ 2 ^ l
+    → weighed weight (published-outputs two m table l) % m ≡ weighed weight (plain-outputs m table l) % m
+unfolding published-outputs
+weighed-outputs false m l table weight h e = refl
+weighed-outputs true m l table weight h e =
+    let next : suc (l - 1) ≡ l = omega arith in
+    let halves : 2 ^ (l - 1) + 2 ^ (l - 1) ≡ m = sym (two-pow-succ (l - 1)) ∙ rw next (sym e) in
+    signed-outputs m (l - 1) table weight (rw e (one-le-pow l 2 (omega arith))) halves
+    ∙ ap (λ (x : ℕ). weighed weight (plain-outputs m table x) % m) next
+
+-- the product of plain operands, and of operands in two's complement
+two-operands : (two : Bool) (m n : ℕ) (weight : ℕ → ℕ) → 0 < n → weighed weight (operand-product two m n) % m ≡ product-sum two m n weight % m
+unfolding operand-product
+two-operands false m n weight h =
+    ap (λ (x : ℕ). x % m)
+    (weighed-operands false m n weight (plain-operand n)
+    (λ v w. weighed-plain-operand w n v ∙ sym (plain-sum m n (λ i. w (2 ^ (v + i))))))
+two-operands true m zero weight h = absurd (omega arith)
+two-operands true m (suc k) weight h =
+    ap (λ (x : ℕ). x % m)
+    (weighed-operands true m (suc k) weight (signed-operand m (suc k)) (λ v w. weighed-signed-operand w m k v))
+
+-- the published product weighs the product of the operands' bits
+weighed-published : (kind : Kind) (m n : ℕ) (weight : ℕ → ℕ) → 0 < n → m ≡ 2 ^ outputs-of kind n
+    → weighed weight (published-product kind m n) % m ≡ product-sum (complement kind) m n weight % m
+unfolding published-product complement outputs-of
+weighed-published plain m n weight h e = two-operands false m n weight h
+weighed-published signed m n weight h e = two-operands true m n weight h
+weighed-published truncated m n weight h e = rw e (weighed-truncated n weight)
+weighed-published multiply-add m n weight h e = two-operands false m n weight h
+weighed-published multiply-add-signed m n weight h e = two-operands true m n weight h
+
+-- operands with bits have outputs
+outputs-some : (kind : Kind) (n : ℕ) → 0 < n → 0 < outputs-of kind n
+unfolding outputs-of
+outputs-some plain n h = omega arith
+outputs-some signed n h = omega arith
+outputs-some truncated n h = h
+outputs-some multiply-add n h = omega arith
+outputs-some multiply-add-signed n h = omega arith
+
+-- a published specification weighed: the outputs less the product of the operands' bits and the sum of c's
 specified : (kind : Kind) (n : ℕ) (table : List ℕ) (m : ℕ) (weight : ℕ → ℕ) → 0 < n → m ≡ 2 ^ outputs-of kind n
-    → weighed weight (specification kind m n table) % m
-    ≡ (weighed weight (plain-outputs m table (outputs-of kind n)) + (m - 1) * product-sum kind m n weight) % m
-unfolding specification outputs-of
-specified plain n table m weight h e =
+    → weighed weight (published-specification kind m n table) % m
+    ≡ (weighed weight (plain-outputs m table (outputs-of kind n)) + (m - 1) * (product-sum (complement kind) m n weight + addend-sum kind n weight)) % m
+unfolding published-specification addend-sum
+specified kind n table m weight h e =
+    let k = addend-width kind n in
     rw (
-      weighed-append weight (plain-outputs m table (2 * n)) _,
-      weighed-operands plain m n weight (plain-operand n)
-          (λ v w. weighed-plain-operand w n v ∙ sym (plain-sum m n (λ i. w (2 ^ (v + i))))),
-    )
-specified signed zero table m weight h e = absurd (omega arith)
-specified signed (suc k) table m weight h e =
-    let l = 2 * suc k - 1 in
-    let next : suc l ≡ 2 * suc k = omega arith in
-    let halves : 2 ^ l + 2 ^ l ≡ m = sym (two-pow-succ l) ∙ rw next (sym e) in
-    rw (
-      weighed-append weight (minus m (times-literal m (output table l) ((2 ^ l, 0) ∷ [])) ++ plain-outputs m table l) _,
-      weighed-operands signed m (suc k) weight (signed-operand m (suc k)) (λ v w. weighed-signed-operand w m k v),
+      weighed-append weight (published-outputs (complement kind) m table (outputs-of kind n)) _,
+      weighed-minus weight m (published-product kind m n ++ plain-operand k (2 * n + 1)),
+      weighed-append weight (published-product kind m n) (plain-operand k (2 * n + 1)),
+      weighed-plain-operand weight k (2 * n + 1),
     )
     (same-add m _ _ _ _
-    (signed-outputs m l table weight (omega (arith, one-le-pow l 2 (omega arith))) halves
-    ∙ ap (λ (x : ℕ). weighed weight (plain-outputs m table x) % m) next)
-    refl)
-specified truncated n table m weight h e =
-    rw (weighed-append weight (plain-outputs m table n) _, weighed-minus weight m _)
-    (same-add m _ _ _ _ refl (same-mul m _ _ _ _ refl (rw e (weighed-truncated n weight))))
+    (weighed-outputs (complement kind) m (outputs-of kind n) table weight (outputs-some kind n h) e)
+    (same-mul m _ _ _ _ refl (same-add m _ _ _ _ (weighed-published kind m n weight h e) refl)))
 
 -- the published specifications are the start polynomial
 pub published : Published
 unfolding modulus start
-published kind c table right outputs =
-    gather-same m (specification kind m (width c) table) (start-terms kind c table) (modulus-positive kind c)
-    (λ u. rw (weighed-coefficient u (specification kind m (width c) table), weighed-coefficient u (start-terms kind c table)) (weighs (λ s. hit u s 1)))
+published kind c table right same =
+    gather-same m (published-specification kind m n table) (start-terms kind c table) (modulus-positive kind c)
+    (λ u. rw (weighed-coefficient u (published-specification kind m n table), weighed-coefficient u (start-terms kind c table)) (weighs (λ s. hit u s 1)))
   where
     m : ℕ
     m = modulus kind c
 
-    weighs : (weight : ℕ → ℕ) → weighed weight (specification kind m (width c) table) % m ≡ weighed weight (start-terms kind c table) % m
+    n : ℕ
+    n = operand-width kind c
+
+    weighs : (weight : ℕ → ℕ) → weighed weight (published-specification kind m n table) % m ≡ weighed weight (start-terms kind c table) % m
     weighs weight =
-        specified kind (width c) table m weight (omega (arith, right-counts c right)) refl
-        ∙ ap (λ (l : ℕ). (weighed weight (plain-outputs m table l) + (m - 1) * product-sum kind m (width c) weight) % m) (sym outputs)
+        specified kind n table m weight (fits kind c right same .some) refl
+        ∙ ap (λ (l : ℕ). (weighed weight (plain-outputs m table l) + (m - 1) * specified-sum kind c weight) % m) (sym (fits kind c right same .outputs))
         ∙ sym (weighed-start kind c table weight)

@@ -14,7 +14,7 @@ p1-says : judging p1 ≡ answers 0 (1 ∷ 0 ∷ [])
 unfolding right handed and-block p1
 p1-says = refl
 
-p3-says : judging p3 ≡ answers 1 (1 ∷ 1 ∷ 1 ∷ 1 ∷ 3 ∷ 1 ∷ [])
+p3-says : judging p3 ≡ answers 1 (1 ∷ 1 ∷ 1 ∷ 1 ∷ 0 ∷ 3 ∷ 1 ∷ [])
 unfolding right handed and-block p3
 p3-says = refl
 

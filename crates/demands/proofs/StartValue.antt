@@ -1,10 +1,10 @@
--- At every operand pair the start polynomial has the value got - wanted, modulo 2^l.
+-- At all operands the start polynomial has the value got - wanted, modulo 2^l.
 use mathlib.Core.Path.{_≡_, refl, ap, sym, _∙_}
-use mathlib.Core.Bool.{true, cond}
+use mathlib.Core.Bool.{Bool, true, false, cond, _&&_}
 use mathlib.Core.List.{List, [], _∷_}
 use mathlib.Core.Logic.{_⊎_, inl, inr}
 use Prim.Native.Nat.{ℕ, zero, suc, _+_, _-_, _*_, _/_, _%_, _^_, _<_, _≤_}
-use native.Mathlib.Nat.{add-comm, add-zero, mul-comm, mul-left-comm, mul-one, mod-mod, mod-eq-of-lt, mod-one, mod-lt, two-pow-succ, pow-le-pow-right, mul-zero, mul-le-mul-left, one-le-pow}
+use native.Mathlib.Nat.{add-comm, add-zero, mul-comm, mul-left-comm, mul-one, mod-mod, mod-add-mod, mod-eq-of-lt, mod-one, mod-lt, two-pow-succ, pow-le-pow-right, mul-zero, mul-le-mul-left, one-le-pow}
 use native.Mathlib.Numerals.{one-add}
 use native.Mathlib.Omega.{arith}
 use lib.Dec.{leb}
@@ -13,20 +13,23 @@ use lib.Pow.{mod-pow-add}
 use borrow.Author.Tests.{le-leb, lt-leb}
 use Rattle.rules.specs.Each.{sum}
 use Rattle.rules.specs.Netlist.{variable, output}
-use Rattle.rules.specs.Values.{width, bit, literal-value, values, shown}
-use Rattle.rules.specs.Product.{Kind, plain, signed, truncated, operand, negative, size, modulo, product}
+use Rattle.rules.specs.Values.{bit, literal-value, values, shown}
+use Rattle.rules.specs.Product.{Kind, complement, operand-width, addend-width, outputs-of, operand, negative, size, modulo, product, wanted-word}
 use Rattle.rules.specs.Polynomial.{times-literal}
 use Rattle.rules.specs.Steps.{modulus, start-terms, start}
+use Rattle.rules.specs.Judging.{shown-for}
 use Rattle.rules.specs.declared.counts.Counts.{Counts}
 use Rattle.rules.proofs.Bits.{bit-cases}
 use Rattle.rules.proofs.Indices.{sum-same}
 use Rattle.rules.proofs.Sound.{RightCounts, SoundTable, right-counts, sound-table}
+use Rattle.rules.proofs.Places.{Fits, fits}
 use Rattle.rules.proofs.Remainders.{same-add, same-cancel, opposite, without, modulo-cond, modulo-mul, sum-mod, sum-factor}
 use Rattle.rules.proofs.Weighed.{weighed, weighed-joined, weighed-one}
-use Rattle.demands.specs.Polynomials.{set-value, value, plain-outputs, StartValue}
-use Rattle.demands.proofs.Value.{weighed-value, set-value-none, set-value-two, value-gather, value-times-literal}
-use Rattle.demands.proofs.Assigned.{literal-digit, values-digits, values-false, values-first, values-second, values-length}
-use Rattle.demands.proofs.Operands.{bit-weight, operand-sum, product-sum, modulus-positive, plain-sum, truncated-sum, signed-sum, weighed-start}
+use Rattle.demands.specs.Polynomials.{set-value, value, plain-outputs, values-for, StartValue}
+use Rattle.demands.proofs.Value.{weighed-value, set-value-none, set-value-one, set-value-two, value-gather, value-times-literal}
+use Rattle.demands.proofs.Assigned.{literal-digit, values-digits, values-false, values-length}
+use Rattle.demands.proofs.Operands.{bit-weight, operand-sum, product-sum, addend-sum, specified-sum, modulus-positive, plain-sum, signed-sum, weighed-start}
+use Rattle.demands.proofs.Places.{value-first, value-second, value-third}
 
 -- one bit more of a number's rest
 rest-suc : (n x : ℕ) → x % 2 ^ suc n ≡ x % 2 ^ n + 2 ^ n * bit x n
@@ -65,44 +68,41 @@ top-digit m p r d positive h (inr e) =
     rw (e, mul-one, mul-one, le-leb p (r + p) (omega arith), less) (less-power m p r positive (omega arith))
 
 -- an operand's bits, each with its weight, are the operand as the reading reads it
-operand-value : (kind : Kind) (m n x : ℕ) → 0 < m → 0 < n → operand-sum kind m n (bit x) % m ≡ modulo m (negative kind n x) (size kind n x)
+operand-value : (kind : Kind) (m n x : ℕ) → 0 < m → 0 < n
+    → operand-sum (complement kind) m n (bit x) % m ≡ modulo m (negative kind n x) (size kind n x)
 unfolding negative size operand modulo
-operand-value plain m n x positive h = rw (plain-sum m n (bit x), bits-sum n x)
-operand-value signed m zero x positive h = absurd (omega arith)
-operand-value signed m (suc k) x positive h =
-    let less : suc k - 1 ≡ k = omega arith in
-    rw (signed-sum m k (bit x), bits-sum k x, less, rest-suc k x, two-pow-succ k)
-    (top-digit m (2 ^ k) (x % 2 ^ k) (bit x k) positive (mod-lt x (one-le-pow k 2 (omega arith))) (bit-cases x k))
-operand-value truncated m n x positive h = rw (truncated-sum m n (bit x), bits-sum n x)
+operand-value kind m n x positive h = go (complement kind) n h
+  where
+    go : (two : Bool) (n : ℕ) → 0 < n
+        → operand-sum two m n (bit x) % m
+        ≡ modulo m (two && leb (2 ^ (n - 1)) (x % 2 ^ n)) (cond (two && leb (2 ^ (n - 1)) (x % 2 ^ n)) (2 ^ n - x % 2 ^ n) (x % 2 ^ n))
+    go false n h = rw (plain-sum m n (bit x), bits-sum n x)
+    go true zero h = absurd (omega arith)
+    go true (suc k) h =
+        let less : suc k - 1 ≡ k = omega arith in
+        rw (signed-sum m k (bit x), bits-sum k x, less, rest-suc k x, two-pow-succ k)
+        (top-digit m (2 ^ k) (x % 2 ^ k) (bit x k) positive (mod-lt x (one-le-pow k 2 (omega arith))) (bit-cases x k))
 
-module _ (kind : Kind) (m n : ℕ) where
+module _ (two : Bool) (m n : ℕ) where
   -- equal numbers of the bits have equal sums
-  operand-same : (f g : ℕ → ℕ) → ((i : ℕ) → i < n → f i ≡ g i) → operand-sum kind m n f ≡ operand-sum kind m n g
+  operand-same : (f g : ℕ → ℕ) → ((i : ℕ) → i < n → f i ≡ g i) → operand-sum two m n f ≡ operand-sum two m n g
   unfolding operand-sum
-  operand-same f g h = sum-same n _ _ (λ i l. ap (λ (x : ℕ). bit-weight kind m n i * x) (h i l))
+  operand-same f g h = sum-same n _ _ (λ i l. ap (λ (x : ℕ). bit-weight two m n i * x) (h i l))
 
   -- a factor of the number of every bit
-  operand-factor : (k : ℕ) (f : ℕ → ℕ) → operand-sum kind m n (λ i. k * f i) ≡ k * operand-sum kind m n f
+  operand-factor : (k : ℕ) (f : ℕ → ℕ) → operand-sum two m n (λ i. k * f i) ≡ k * operand-sum two m n f
   unfolding operand-sum
-  operand-factor k f = sum-same n _ _ (λ i l. mul-left-comm (bit-weight kind m n i) k (f i)) ∙ sum-factor n k _
+  operand-factor k f = sum-same n _ _ (λ i l. mul-left-comm (bit-weight two m n i) k (f i)) ∙ sum-factor n k _
 
   -- where two bits together have the product of their numbers, two operands have the product of their sums
   product-split : (weight f g : ℕ → ℕ) → ((i j : ℕ) → i < n → j < n → weight (2 ^ (1 + i) + 2 ^ (n + 1 + j)) ≡ f i * g j)
-      → product-sum kind m n weight ≡ operand-sum kind m n f * operand-sum kind m n g
+      → product-sum two m n weight ≡ operand-sum two m n f * operand-sum two m n g
   unfolding product-sum
   product-split weight f g h =
-      operand-same _ _ (λ i k. operand-same _ _ (λ j l. h i j k l) ∙ operand-factor (f i) g ∙ mul-comm (f i) (operand-sum kind m n g))
-      ∙ operand-factor (operand-sum kind m n g) f ∙ mul-comm (operand-sum kind m n g) (operand-sum kind m n f)
+      operand-same _ _ (λ i k. operand-same _ _ (λ j l. h i j k l) ∙ operand-factor (f i) g ∙ mul-comm (f i) (operand-sum two m n g))
+      ∙ operand-factor (operand-sum two m n g) f ∙ mul-comm (operand-sum two m n g) (operand-sum two m n f)
 
 module _ (c : Counts) (table : List ℕ) (a b : ℕ) (right : RightCounts c) where
-  -- two bits together have the product of their values
-  pair-value : (i j : ℕ) → i < width c → j < width c
-      → set-value (values c table a b) (2 ^ (1 + i) + 2 ^ (width c + 1 + j)) ≡ bit a i * bit b j
-  pair-value i j k l =
-      let entries : length (values c table a b) ≡ c .m + 1 = values-length c table a b right in
-      rw (← values-first c table a b i k, ← values-second c table a b j l)
-      (set-value-two (values c table a b) (1 + i) (width c + 1 + j) (λ e. omega arith) (omega arith) (omega arith))
-
   -- an output has its power of 2 times its literal's value
   output-value : (m i x : ℕ) → 2 ^ i ≤ m → variable x ≤ c .m
       → weighed (set-value (values c table a b)) (times-literal m x ((2 ^ i, 0) ∷ [])) % m
@@ -127,43 +127,84 @@ module _ (c : Counts) (table : List ℕ) (a b : ℕ) (right : RightCounts c) whe
   unfolding shown
   shown-below m e = rw e (digits-below (c .o) _ (λ i l. literal-digit (values c table a b) (output table i) (values-digits c table a b)))
 
--- the wanted word is the product of the operands' bits, each with its weight
-wanted-value : (kind : Kind) (c : Counts) (a b : ℕ) → 0 < width c
-    → product kind (width c) a b
-    ≡ (operand-sum kind (modulus kind c) (width c) (bit a) * operand-sum kind (modulus kind c) (width c) (bit b)) % modulus kind c
-unfolding product modulus
-wanted-value kind c a b h =
-    let m = modulus kind c in
-    let positive = modulus-positive kind c in
-    sym (modulo-mul m positive _ _ _ _ _ _ (operand-value kind m (width c) a positive h) (operand-value kind m (width c) b positive h))
+-- the wanted word: the product of the operands' bits, each with its weight, and c
+abbrev wanted-sum : Kind → ℕ → ℕ → ℕ → ℕ → ℕ → ℕ
+wanted-sum kind m n a b c =
+    operand-sum (complement kind) m n (bit a) * operand-sum (complement kind) m n (bit b) + c % 2 ^ addend-width kind n
+
+wanted-value : (kind : Kind) (m n a b c : ℕ) → 0 < n → 0 < m → m ≡ 2 ^ outputs-of kind n → wanted-word kind n a b c ≡ wanted-sum kind m n a b c % m
+unfolding wanted-word product operand
+wanted-value kind m n a b c some positive e =
+    let whole = modulo-mul m positive _ _ _ _ _ _ (operand-value kind m n a positive some) (operand-value kind m n b positive some) in
+    rw (← e, ← whole, mod-add-mod)
+
+module _ (kind : Kind) (c : Counts) (table : List ℕ) (right : RightCounts c) (fit : Fits kind c) (a b addend : ℕ)
+    (h : a < 2 ^ operand-width kind c) (k : b < 2 ^ operand-width kind c) (l : addend < 2 ^ addend-width kind (operand-width kind c)) where
+  -- n, and the values of the variables
+  abbrev n : ℕ
+  n = operand-width kind c
+
+  abbrev all : List ℕ
+  all = values-for kind c table a b addend
+
+  -- two bits together have the product of their values
+  two-bits : (i j : ℕ) → i < n → j < n → set-value all (2 ^ (1 + i) + 2 ^ (n + 1 + j)) ≡ bit a i * bit b j
+  two-bits i j p q =
+      let entries : length all ≡ c .m + 1 = values-length c table _ _ right in
+      rw (← value-first kind c fit a b addend h k l table i p, ← value-second kind c fit a b addend h k l table j q)
+      (set-value-two all (1 + i) (n + 1 + j) (λ e. omega arith) (omega (arith, fit .inputs, right .variables)) (omega (arith, fit .inputs, right .variables)))
+
+  -- a bit of c has its value
+  one-bit : (i : ℕ) → i < addend-width kind n → set-value all (2 ^ (2 * n + 1 + i)) ≡ bit addend i
+  one-bit i p =
+      let entries : length all ≡ c .m + 1 = values-length c table _ _ right in
+      rw (← value-third kind c fit a b addend h k l table i p)
+      (set-value-one all (2 * n + 1 + i) (omega (arith, fit .inputs, right .variables)))
+
+  -- the bits of the specification have the value of the wanted word
+  specified-value : specified-sum kind c (set-value all) ≡ wanted-sum kind (modulus kind c) n a b addend
+  unfolding addend-sum
+  specified-value =
+      rw (
+        product-split (complement kind) (modulus kind c) n (set-value all) (bit a) (bit b) two-bits,
+        sum-same (addend-width kind n) _ _ (λ i p. ap (λ (x : ℕ). 2 ^ i * x) (one-bit i p)),
+        bits-sum (addend-width kind n) addend,
+      )
 
 -- the start polynomial has the value got - wanted
 pub start-value : StartValue
-unfolding start modulus
-start-value kind c table right sound outputs a b first second =
-    same-add m (value all (start kind c table)) (shown c table a b + (m - 1) * x) (product kind (width c) a b) x got wanted
-    ∙ without m (modulus-positive kind c) (shown c table a b) x
-    ∙ mod-eq-of-lt (shown-below c table a b (right-counts c right) m power)
+unfolding start modulus shown-for
+start-value kind c table right sound same a b addend h k l =
+    same-add m (value (all kind c table counts fit a b addend h k l) (start kind c table)) (shows + (m - 1) * x) (wanted-word kind (operand-width kind c) a b addend) x got wanted
+    ∙ without m (modulus-positive kind c) shows x
+    ∙ mod-eq-of-lt (shown-below c table _ _ counts m power)
   where
     m : ℕ
     m = modulus kind c
 
-    power : m ≡ 2 ^ c .o
-    power = ap (λ (l : ℕ). 2 ^ l) (sym outputs)
+    counts : RightCounts c
+    counts = right-counts c right
 
-    all : List ℕ
-    all = values c table a b
+    fit : Fits kind c
+    fit = fits kind c right same
+
+    power : m ≡ 2 ^ c .o
+    power = ap (λ (l : ℕ). 2 ^ l) (sym (fit .outputs))
+
+    shows : ℕ
+    shows = shown-for kind c table a b addend
 
     x : ℕ
-    x = operand-sum kind m (width c) (bit a) * operand-sum kind m (width c) (bit b)
+    x = wanted-sum kind m (operand-width kind c) a b addend
 
-    wanted : product kind (width c) a b % m ≡ x % m
-    wanted = rw (wanted-value kind c a b (omega (arith, right-counts c right)), mod-mod)
+    wanted : wanted-word kind (operand-width kind c) a b addend % m ≡ x % m
+    wanted = rw (wanted-value kind m (operand-width kind c) a b addend (fit .some) (modulus-positive kind c) refl, mod-mod)
 
-    got : value all (start kind c table) % m ≡ (shown c table a b + (m - 1) * x) % m
+    got : value (all kind c table counts fit a b addend h k l) (start kind c table) % m ≡ (shows + (m - 1) * x) % m
     got =
-        value-gather all m (start-terms kind c table)
-        ∙ ap (λ (y : ℕ). y % m) (weighed-value all (start-terms kind c table))
-        ∙ weighed-start kind c table (set-value all)
-        ∙ rw (product-split kind m (width c) (set-value all) (bit a) (bit b) (pair-value c table a b (right-counts c right)))
-        (same-add m _ _ _ _ (outputs-value c table a b (right-counts c right) m (sound-table c table sound) power) refl)
+        let values = all kind c table counts fit a b addend h k l in
+        value-gather values m (start-terms kind c table)
+        ∙ ap (λ (y : ℕ). y % m) (weighed-value values (start-terms kind c table))
+        ∙ weighed-start kind c table (set-value values)
+        ∙ rw (specified-value kind c table counts fit a b addend h k l)
+        (same-add m _ _ _ _ (outputs-value c table _ _ counts m (sound-table c table sound) power) refl)

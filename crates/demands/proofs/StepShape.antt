@@ -3,7 +3,7 @@
 use mathlib.Core.Path.{_≡_, refl, _∙_}
 use mathlib.Core.Bool.{true}
 use mathlib.Core.List.{List}
-use Prim.Native.Nat.{ℕ, suc, _+_, _%_, _^_, _<_, _≤_}
+use Prim.Native.Nat.{ℕ, suc, _+_, _*_, _%_, _^_, _<_, _≤_}
 use native.Mathlib.Nat.{pow-succ'}
 use native.Mathlib.Omega.{arith}
 use borrow.Author.Tests.{ltb-true, leb-true}
@@ -12,8 +12,8 @@ use lib.ListN.{length, getD}
 use lib.Pow.{pow-pos, pow-lt, pow-mono}
 use Rattle.rules.specs.Each.{every}
 use Rattle.rules.specs.Netlist.{record-at}
-use Rattle.rules.specs.Values.{width, values}
-use Rattle.rules.specs.Product.{Kind}
+use Rattle.rules.specs.Values.{values}
+use Rattle.rules.specs.Product.{Kind, operand-width, addend-width}
 use Rattle.rules.specs.Polynomial.{Polynomial, Below, Coefficients, gather}
 use Rattle.rules.specs.Steps.{modulus, start-terms, start, all-replaced, step, run, after}
 use Rattle.rules.specs.Judging.{is-gate}
@@ -21,6 +21,7 @@ use Rattle.rules.specs.declared.counts.Counts.{Counts}
 use Rattle.rules.proofs.Indices.{both, every-at}
 use Rattle.rules.proofs.Gathered.{gather-below, gather-coefficients}
 use Rattle.rules.proofs.Sound.{RightCounts, SoundTable, every-variable}
+use Rattle.rules.proofs.Places.{operands-within}
 use Rattle.rules.proofs.AllSets.{AllSets, Joins, sets-under, all-gather, all-start, all-terms-replaced}
 use Rattle.rules.proofs.Bits.{with-variable-under}
 use Rattle.rules.proofs.Trails.{trail-keeps}
@@ -77,19 +78,27 @@ module _ (kind : Kind) (c : Counts) (table : List ℕ) (right : RightCounts c) (
       (all-terms-replaced (UpTo c) (UpTo c) (modulus kind c) v (λ s e k. k) (λ s e k. omega arith) r
       (every-variable (λ w. w < v) (Joins (UpTo c)) (λ w l. up-to-joins c w (omega arith)) r (facts .low)) p h)
 
-  -- the set of a product term holds inputs
-  product-under : (i j : ℕ) → i < width c → j < width c → UpTo c (2 ^ (1 + i) + 2 ^ (width c + 1 + j))
+  -- n, the bits of a and of b
+  abbrev n : ℕ
+  n = operand-width kind c
+
+  -- the set of a product's term holds inputs
+  product-under : (i j : ℕ) → i < n → j < n → UpTo c (2 ^ (1 + i) + 2 ^ (n + 1 + j))
   product-under i j hi hj =
-      let first : 2 ^ (1 + i) < 2 ^ (width c + 1 + j) = pow-lt (omega arith) in
-      let second : 2 ^ suc (width c + 1 + j) ≤ 2 ^ (c .m + 1) = pow-mono (omega (arith, right .operands, right .variables)) in
-      omega (arith, pow-succ' 2 (width c + 1 + j))
+      let first : 2 ^ (1 + i) < 2 ^ (n + 1 + j) = pow-lt (omega arith) in
+      let second : 2 ^ suc (n + 1 + j) ≤ 2 ^ (c .m + 1) = pow-mono (omega (arith, operands-within kind c, right .variables)) in
+      omega (arith, pow-succ' 2 (n + 1 + j))
+
+  -- so does that of a term of c
+  addend-under : (i : ℕ) → i < addend-width kind n → UpTo c (2 ^ (2 * n + 1 + i))
+  addend-under i h = pow-lt (omega (arith, operands-within kind c, right .variables))
 
   -- the start polynomial is normal
   pub start-shape : Shape kind c (start kind c table)
   unfolding start
   start-shape =
       gather-shape kind c (start-terms kind c table)
-      (all-start (UpTo c) kind c table (pow-pos (c .m + 1)) (λ i l. up-to-joins c _ (sound .output-variables i l)) product-under)
+      (all-start (UpTo c) kind c table (pow-pos (c .m + 1)) (λ i l. up-to-joins c _ (sound .output-variables i l)) product-under addend-under)
 
   module _ (order : List ℕ) (gates : every (is-gate c) order ≡ true) (k : ℕ) (l : k ≤ length order) where
     -- every polynomial of a run is normal, and has the start's value

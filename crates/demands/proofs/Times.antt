@@ -1,11 +1,11 @@
--- Products and opposites of polynomials, weighed.
-use mathlib.Core.Path.{_≡_, refl, sym, _∙_}
+-- Products of polynomials, weighed.
+use mathlib.Core.Path.{_≡_, refl, sym}
 use mathlib.Core.List.{[], _∷_}
-use Prim.Native.Nat.{ℕ, _+_, _-_, _*_}
-use native.Mathlib.Nat.{zero-add, mul-add, mul-zero, mul-assoc}
+use Prim.Native.Nat.{ℕ, _+_, _*_}
+use native.Mathlib.Nat.{mul-add, mul-zero, mul-assoc}
 use Rattle.rules.specs.Polynomial.{Term, Polynomial}
-use Rattle.rules.proofs.Weighed.{weighed, weighed-one, weighed-append}
-use Rattle.demands.specs.Polynomials.{term-times, times, minus}
+use Rattle.rules.proofs.Weighed.{weighed, weighed-append}
+use Rattle.demands.specs.Polynomials.{term-times, times}
 
 module _ (weight : ℕ → ℕ) where
   -- a term times a list: the list weighed with the term's set
@@ -19,8 +19,3 @@ module _ (weight : ℕ → ℕ) where
   unfolding weighed times
   weighed-times [] q = refl
   weighed-times (t ∷ p) q = rw (weighed-append weight (term-times t q) (times p q), weighed-term-times t q, weighed-times p q)
-
-  -- minus a list
-  pub weighed-minus : (m : ℕ) (p : Polynomial) → weighed weight (minus m p) ≡ (m - 1) * weighed weight p
-  unfolding minus
-  weighed-minus m p = weighed-times ((m - 1, 0) ∷ []) p ∙ weighed-one (λ s. weighed (λ t. weight (s + t)) p) (m - 1) 0 ∙ simp zero-add

@@ -50,7 +50,7 @@ set-value-out vs s v e l =
     ap (set-value vs) (sym whole) ∙ set-value-put vs (s - 2 ^ v) v (bit-out s v e .1) l
 
 -- a variable alone has its own value
-set-value-one : (vs : List ℕ) (v : ℕ) → v < length vs → set-value vs (2 ^ v) ≡ getD vs v 0
+pub set-value-one : (vs : List ℕ) (v : ℕ) → v < length vs → set-value vs (2 ^ v) ≡ getD vs v 0
 set-value-one vs v l = rw (zero-add, set-value-none vs, mul-one) at (set-value-put vs 0 v (bit-none v) l)
 
 -- two variables have the product of their values

@@ -9,13 +9,12 @@ use lib.ListN.{length, getD}
 use borrow.Author.Tests.{le-leb, lt-leb, leb-true, leb-false}
 use Rattle.rules.specs.Each.{every}
 use Rattle.rules.specs.Says.{Says, refuses, answers, refuse-or}
-use Rattle.rules.specs.Values.{width, shown}
-use Rattle.rules.specs.Product.{kind-of, product}
+use Rattle.rules.specs.Product.{kind-of, operand-a, operand-b, operand-c}
 use Rattle.rules.specs.Polynomial.{Term, Polynomial}
 use Rattle.rules.specs.Steps.{run, after}
-use Rattle.rules.specs.Judging.{Inputs, roomy, held, inputs-only, soonest, pair-a, pair-b, differs, ended, verdict, refusal, judging}
+use Rattle.rules.specs.Judging.{Inputs, roomy, held, inputs-only, soonest, differs, ended, verdict, refusal, judging}
 use Rattle.rules.proofs.Trails.{length-run}
-use Rattle.demands.specs.Answers.{following}
+use Rattle.demands.specs.Answers.{bits, got, wanted, following}
 use Rattle.demands.proofs.Passed.{answered}
 use Rattle.demands.proofs.TermLimit.{roomy-le}
 
@@ -40,22 +39,23 @@ last x = following x (length (x .order))
 abbrev pub room : Inputs → ℕ
 room x = roomy (x .limit) (polynomials-on x)
 
--- what D says: the last polynomial has terms, of input variables only; the pair is its soonest set's, with the two words there
-pub record Differing (x : Inputs) (a b g w : ℕ) : Type 0 where
+-- what D says: the last polynomial has terms, of input variables only; the operands are its soonest set's, with the two words there
+pub record Differing (x : Inputs) (a b c g w : ℕ) : Type 0 where
   pub head : Term
   pub tail : Polynomial
   pub parts : last x ≡ head ∷ tail
   pub inputs : inputs-only (x .counts) (head ∷ tail) ≡ true
-  pub first : a ≡ pair-a (width (x .counts)) (soonest (head .1) tail)
-  pub second : b ≡ pair-b (width (x .counts)) (soonest (head .1) tail)
-  pub shows : g ≡ shown (x .counts) (x .table) a b
-  pub wants : w ≡ product (kind-of (x .kind)) (width (x .counts)) a b
+  pub first : a ≡ operand-a (bits x) (soonest (head .1) tail)
+  pub second : b ≡ operand-b (bits x) (soonest (head .1) tail)
+  pub third : c ≡ operand-c (bits x) (soonest (head .1) tail)
+  pub shows : g ≡ got x a b c
+  pub wants : w ≡ wanted x a b c
 
 -- what an answer says of the run
 abbrev pub Means : Inputs → Says → Type 0
 Means x (refuses k) = ⊥
 Means x (answers zero numbers) = last x ≡ []
-Means x (answers (suc zero) numbers) = Differing x (getD numbers 2 0) (getD numbers 3 0) (getD numbers 4 0) (getD numbers 5 0)
+Means x (answers (suc zero) numbers) = Differing x (getD numbers 2 0) (getD numbers 3 0) (getD numbers 4 0) (getD numbers 5 0) (getD numbers 6 0)
 Means x (answers (suc (suc zero)) numbers) =
     (room x ≤ length (x .order)) × (room x ≡ getD numbers 0 0) × (length (held (x .limit) (polynomials-on x)) ≡ getD numbers 1 0)
 Means x (answers (suc (suc (suc k))) numbers) = (length (x .order) < room x) × (inputs-only (x .counts) (last x) ≡ false)
@@ -106,7 +106,7 @@ module _ (x : Inputs) where
       go : (b : Bool) → inputs-only (x .counts) (t ∷ p) ≡ b
           → Means x (cond b (differs (kind-of (x .kind)) (x .counts) (x .table) (length (x .order)) (length (t ∷ p)) (soonest (t .1) p))
           (answers 3 (length (x .order) ∷ length (t ∷ p) ∷ [])))
-      go true k = record { head = t; tail = p; parts = e; inputs = k; first = refl; second = refl; shows = refl; wants = refl }
+      go true k = record { head = t; tail = p; parts = e; inputs = k; first = refl; second = refl; third = refl; shows = refl; wants = refl }
       go false k = (over, rw e k)
 
   -- what the verdict says is so

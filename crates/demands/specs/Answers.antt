@@ -7,11 +7,11 @@ use Prim.Native.Nat.{ℕ, _+_, _*_, _^_, _<_, _≤_}
 use lib.Count.{ones}
 use lib.ListN.{length, getD}
 use Rattle.rules.specs.Netlist.{counts-right, table-sound}
-use Rattle.rules.specs.Values.{width, bit, shown}
-use Rattle.rules.specs.Product.{kind-of, product}
+use Rattle.rules.specs.Values.{bit}
+use Rattle.rules.specs.Product.{kind-of, operand-width, addend-width, wanted-word}
 use Rattle.rules.specs.Polynomial.{Polynomial}
 use Rattle.rules.specs.Steps.{after, honest}
-use Rattle.rules.specs.Judging.{Inputs, Judged, refusal}
+use Rattle.rules.specs.Judging.{Inputs, Judged, shown-for, refusal}
 use Rattle.rules.specs.Desk.{falling}
 use Rattle.rules.specs.declared.answers.Answer.{Answer}
 use Rattle.rules.specs.declared.answers.Answer.the-variants.{Equal, Differs, OutOfRoom, Unfinished}
@@ -25,43 +25,50 @@ pub record Answered (x : Inputs) (r : Answer) : Type 0 where
   pub log : List StepRecord
   pub judged : Judged x r store scratch log
 
--- n, the bits of an operand
+-- n, the bits of a and of b
 abbrev pub bits : Inputs → ℕ
-bits x = width (x .counts)
+bits x = operand-width (kind-of (x .kind)) (x .counts)
 
--- the word that the outputs show, and the wanted word, for an operand pair
-abbrev pub got : Inputs → ℕ → ℕ → ℕ
-got x a b = shown (x .counts) (x .table) a b
+-- operands: a and b have n bits, c has 2n or, where nothing is added, none
+abbrev pub Operands : Inputs → ℕ → ℕ → ℕ → Type 0
+Operands x a b c = (a < 2 ^ bits x) × (b < 2 ^ bits x) × (c < 2 ^ addend-width (kind-of (x .kind)) (bits x))
 
-abbrev pub wanted : Inputs → ℕ → ℕ → ℕ
-wanted x a b = product (kind-of (x .kind)) (bits x) a b
+-- the word that the outputs show, and the wanted word, for operands
+abbrev pub got : Inputs → ℕ → ℕ → ℕ → ℕ
+got x a b c = shown-for (kind-of (x .kind)) (x .counts) (x .table) a b c
 
--- the outputs are the product for every operand pair
+abbrev pub wanted : Inputs → ℕ → ℕ → ℕ → ℕ
+wanted x a b c = wanted-word (kind-of (x .kind)) (bits x) a b c
+
+-- the outputs are the wanted word for all operands
 abbrev pub Right : Inputs → Type 0
-Right x = (a b : ℕ) → a < 2 ^ bits x → b < 2 ^ bits x → got x a b ≡ wanted x a b
+Right x = (a b c : ℕ) → Operands x a b c → got x a b c ≡ wanted x a b c
 
--- "equal" only if the outputs are the product for every operand pair
+-- "equal" only if the outputs are the wanted word for all operands
 abbrev pub EqualRight : Type 0
 EqualRight = (x : Inputs) (steps terms : ℕ) → Answered x (Equal steps terms) → Right x
 
--- the pair a, b comes before the pair d, e: fewer 1 bits, or as many and a smaller a + 2^n b
-abbrev pub Before : ℕ → ℕ → ℕ → ℕ → ℕ → Type 0
-Before n a b d e =
-    (ones a + ones b < ones d + ones e)
-    ⊎ ((ones a + ones b ≡ ones d + ones e) × (a + 2 ^ n * b < d + 2 ^ n * e))
+-- operands as one number: a + 2^n·b + 2^(2n)·c
+abbrev pub together : ℕ → ℕ → ℕ → ℕ → ℕ
+together n a b c = a + 2 ^ n * b + 2 ^ (2 * n) * c
 
--- the pair is an operand pair that goes wrong, with its two words, and every pair before it is right
-pub record Least (x : Inputs) (a b g w : ℕ) : Type 0 where
-  pub first : a < 2 ^ bits x
-  pub second : b < 2 ^ bits x
-  pub evaluated : g ≡ got x a b
-  pub read : w ≡ wanted x a b
+-- the operands a, b, c come before the operands d, e, f: fewer 1 bits, or as many and a smaller number
+abbrev pub Before : ℕ → ℕ → ℕ → ℕ → ℕ → ℕ → ℕ → Type 0
+Before n a b c d e f =
+    (ones a + ones b + ones c < ones d + ones e + ones f)
+    ⊎ ((ones a + ones b + ones c ≡ ones d + ones e + ones f) × (together n a b c < together n d e f))
+
+-- operands that go wrong, with their two words, and all operands before them are right
+pub record Least (x : Inputs) (a b c g w : ℕ) : Type 0 where
+  pub operands : Operands x a b c
+  pub evaluated : g ≡ got x a b c
+  pub read : w ≡ wanted x a b c
   pub wrong : g ≡ w → ⊥
-  pub least : (d e : ℕ) → d < 2 ^ bits x → e < 2 ^ bits x → Before (bits x) d e a b → got x d e ≡ wanted x d e
+  pub least : (d e f : ℕ) → Operands x d e f → Before (bits x) d e f a b c → got x d e f ≡ wanted x d e f
 
--- "differs" names, of all pairs that go wrong, the one with the fewest 1 bits and of those the smallest
+-- "differs" names, of all operands that go wrong, those with the fewest 1 bits and of these the smallest
 abbrev pub DiffersRight : Type 0
-DiffersRight = (x : Inputs) (steps terms a b g w : ℕ) → Answered x (Differs steps terms a b g w) → Least x a b g w
+DiffersRight = (x : Inputs) (steps terms a b c g w : ℕ) → Answered x (Differs steps terms a b c g w) → Least x a b c g w
 
 -- the polynomial after k steps of the order, with no limit
 abbrev pub following : Inputs → ℕ → Polynomial
@@ -109,4 +116,4 @@ abbrev pub HonestDecides : Type 0
 HonestDecides =
     (x : Inputs) (r : Answer) → Answered x r → Roomy x → honest (x .counts) (x .table) (x .order) ≡ true
     → (Right x → (steps terms : ℕ) × (r ≡ Equal steps terms))
-    × ((Right x → ⊥) → (steps terms a b g w : ℕ) × (r ≡ Differs steps terms a b g w))
+    × ((Right x → ⊥) → (steps terms a b c g w : ℕ) × (r ≡ Differs steps terms a b c g w))

@@ -10,10 +10,10 @@ use Rattle.rules.specs.Says.{refuses, says, text-says, word-says}
 use Rattle.rules.specs.Netlist.{output, output-sound, table-sound, counts-wrong, table-short}
 use Rattle.rules.specs.Values.{Evaluated, evaluate-checks}
 use Rattle.rules.specs.Judging.{Inputs, Judged, checks}
-use Rattle.rules.specs.Text.{line-feed, header-text, input-text, output-text, text-of}
+use Rattle.rules.specs.Text.{header-text, input-text, output-text, text-of}
 use Rattle.rules.specs.Reading.{ReadAs}
 use Rattle.rules.specs.Limits.{most-desk-bytes, most-desk-variables}
-use Rattle.rules.specs.Desk.{desk-table, desk-checks, kind-named, printed, Lined}
+use Rattle.rules.specs.Desk.{desk-table, desk-checks, kind-line, printed, Lined}
 use Rattle.rules.specs.declared.answers.Answer.{Answer}
 use Rattle.rules.specs.declared.answers.Line.{Line}
 use Rattle.rules.specs.declared.answers.StepRecord.{StepRecord}
@@ -111,9 +111,9 @@ ReadRefusalKeeps =
     (text table : List ℕ) (r : Text) (table-exit : List ℕ) → ReadAs text table r table-exit
     → (k : ℕ) → text-says r ≡ refuses k → table-exit ≡ table
 
--- the desk's input is a kind line that names this kind, and a netlist text
+-- the desk's input is the line of this kind, and a netlist text
 abbrev pub Asked : List ℕ → ℕ → List ℕ → Type 0
-Asked input kind text = (letter : ℕ) × (kind-named letter ≡ kind) × (kind < 3) × (input ≡ letter ∷ line-feed ∷ text)
+Asked input kind text = (kind < 5) × (input ≡ kind-line kind ++ text)
 
 -- what is wrong with an input that the desk refuses with k, in the order of its checks: its length, its kind line, its text, M, and
 -- then what judging refuses

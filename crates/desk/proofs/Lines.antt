@@ -1,13 +1,15 @@
 -- What a line holds: what is written into zeros; and when that is the desk's line.
-use mathlib.Core.Path.{_≡_, _∙_}
+use mathlib.Core.Path.{_≡_, refl, _∙_}
+use mathlib.Core.Bool.{Bool, true, false}
 use mathlib.Core.List.{List, [], _∷_, _++_}
 use Prim.Native.Nat.{ℕ, zero, suc, _+_, _-_, _<_, _≤_}
 use native.Mathlib.Nat.{zero-add, sub-zero, zero-sub, suc-sub-suc}
 use native.Mathlib.Omega.{arith}
 use lib.ListN.{length, drop, set, replicate, length-append}
 use Rattle.rules.specs.Text.{line-feed}
-use Rattle.rules.specs.Says.{Says}
-use Rattle.rules.specs.Desk.{line-room, spaced, desk-says, desk-line, Lined}
+use Rattle.rules.specs.Says.{Says, refuses, answers}
+use Rattle.rules.specs.Product.{kind-of, adds}
+use Rattle.rules.specs.Desk.{line-room, spaced, kind-asked, desk-says, told, desk-line, Lined}
 use Rattle.rules.specs.declared.answers.Line.{Line}
 use Rattle.desk.specs.Written.{Written}
 use Rattle.desk.specs.Line.{Holds, Formatted}
@@ -38,11 +40,23 @@ line-holds letter numbers bytes end h w =
     holds-written _ _ _
     (written-joined zeros bytes _ (letter ∷ spaced numbers) (line-feed ∷ []) 0 end _ (omega arith) both (written-one bytes end line-feed h))
 
--- a line that holds what the desk says of an input is the desk's line
-pub formatted-lined : (input : List ℕ) (said : Says) (r : Line) → said ≡ desk-says input → Formatted said r → Lined input r
+-- of two numbers, and of a refusal, nothing is left out
+pub told-two : (adding : Bool) (k x y : ℕ) → told adding (answers k (x ∷ y ∷ [])) ≡ answers k (x ∷ y ∷ [])
+unfolding told
+told-two true k x y = refl
+told-two false k x y = refl
+
+pub told-refusal : (adding : Bool) (k : ℕ) → told adding (refuses k) ≡ refuses k
+unfolding told
+told-refusal true k = refl
+told-refusal false k = refl
+
+-- a line that holds what is printed of what the desk says of an input is the desk's line
+pub formatted-lined : (input : List ℕ) (said : Says) (adding : Bool) (r : Line) → said ≡ desk-says input → adding ≡ adds (kind-of (kind-asked input))
+    → Formatted (told adding said) r → Lined input r
 unfolding desk-line
-formatted-lined input said r e f =
-    let g : Formatted (desk-says input) r = rw e at f in
+formatted-lined input said adding r e k f =
+    let g : Formatted (told (adds (kind-of (kind-asked input))) (desk-says input)) r = rw (e, k) at f in
     record { bytes = g .bytes; len = g .len }
 
 -- the desk's line has as many bytes as it says

@@ -1,13 +1,8 @@
--- What is promised of the kind line.
+-- What is promised of a kind line of one letter.
 use mathlib.Core.Bool.{cond}
-use mathlib.Core.List.{List, [], _∷_}
 use Prim.Native.Nat.{ℕ}
 use lib.Dec.{eqb}
-use Rattle.rules.specs.Text.{line-feed}
-use Rattle.rules.specs.Desk.{kind-named}
 
--- the number of the kind that an input's first line names; 3 where that line is not one byte that names a kind
-unfoldable pub asked-kind : List ℕ → ℕ
-asked-kind [] = 3
-asked-kind (x ∷ []) = 3
-asked-kind (x ∷ end ∷ text) = cond (eqb end line-feed) (kind-named x) 3
+-- the number of the kind whose line has this one letter, `m`, `t`, `s` or `u`; 5 is no kind
+unfoldable pub kind-named : ℕ → ℕ
+kind-named x = cond (eqb x 109) 3 (cond (eqb x 116) 2 (cond (eqb x 115) 1 (cond (eqb x 117) 0 5)))

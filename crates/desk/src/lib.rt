@@ -8,30 +8,33 @@ pub mod order; // order.rt: the order M down to I + 1
 use crate::format::answer_line;
 use crate::judging::read_and_judged;
 use crate::kind::kind_asked;
+use crate::kind::line_bytes;
+use product::adds;
 use rules::answers::Answer;
 use rules::answers::Line;
 use rules::limits::Limits;
 ghost use mathlib.Core.Path.{_≡_};
 ghost use Rattle.rules.specs.Says.{says};
-ghost use Rattle.rules.specs.Desk.{desk-says, Lined};
+ghost use Rattle.rules.specs.Desk.{kind-asked, desk-says, Lined};
 
-// What is said of an input: 13 by its length, 9 for its kind line, and then by its text.
-pub fn said(input: &[u8]) -> Answer
+// What is said of an input whose kind line is known: 13 by its length, 9 for its kind line, and then by its text.
+pub fn said(kind: u32, input: &[u8]) -> Answer
+    requires { ⌜ kind ≡ kind-asked (now input) ⌝ }
     ensures { λ r. ⌜ says r ≡ desk-says (now (input .entry)) ⌝ }
 {
-    let kind = kind_asked(input);
     if Limits::DESK_BYTES_MOST < input.len() {
         return Answer::Refused(13);
     }
-    if kind == 3 {
+    if kind == 5 {
         return Answer::Refused(9);
     }
-    read_and_judged(kind, &input[2..])
+    read_and_judged(kind, &input[line_bytes(kind)..])
 }
 
 // The line that the desk program prints of an input.
 pub fn line(input: &[u8]) -> Line
     ensures { λ r. ⌜ Lined (now (input .entry)) r ⌝ }
 {
-    answer_line(said(input))
+    let kind = kind_asked(input);
+    answer_line(said(kind, input), adds(kind))
 }

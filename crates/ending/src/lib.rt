@@ -1,15 +1,18 @@
-// The answer by the last polynomial: equal, differs with the wrong pair, or unfinished.
+// The answer by the last polynomial: equal, differs with the wrong operands, or unfinished.
 use netlist::values::shown;
-use product::product;
+use product::first_word;
+use product::operand_bits;
+use product::second_word;
+use product::word_for;
 use rules::answers::Answer;
 use rules::counts::Counts;
 use words::sets::holds;
 ghost use mathlib.Core.Path.{_≡_};
-ghost use mathlib.Core.Bool.{cond};
+ghost use mathlib.Core.Bool.{false, cond};
 ghost use Prim.Native.Nat.{_+_, _*_, _/_, _^_, _<_, _≤_};
 ghost use lib.Dec.{ltb};
 ghost use lib.ListN.{length, drop};
-ghost use Rattle.rules.specs.Judging.{set-width, differs, ended};
+ghost use Rattle.rules.specs.Judging.{misfits, set-width, differs, ended};
 ghost use Rattle.rules.specs.Judging as rule;
 ghost use Rattle.rules.specs.Limits.{most-variables};
 ghost use Rattle.rules.specs.Product.{kind-of};
@@ -80,21 +83,26 @@ fn soonest(store: &[u64], count: usize, w: usize) -> u64
     best
 }
 
-// Differs, with the wrong pair of a halved set: its low n bits are a, the others b.
+// Differs, with the wrong operands of a halved set: its low n bits are a, the next b, and those above c.
 fn differing(c: Counts, table: &[u32], kind: u32, steps: usize, terms: usize, half: u64) -> Answer
-    requires { ⌜ Sound c (now table) × (kind ≤ 2) ⌝ }
+    requires { ⌜ Sound c (now table) × (misfits c (kind-of kind) ≡ false) ⌝ }
     ensures { λ r. ⌜ says r ≡ differs (kind-of kind) c (now (table .entry)) steps terms (2 * half) ⌝ }
 {
-    let n = c.i / 2;
+    let n = operand_bits(c, kind);
     let a = half % (1u64 << n);
-    let b = half >> n;
-    let got = shown(c, table, a, b);
-    let wanted = product(kind, n, a, b);
+    let above = half >> n;
+    let b = above % (1u64 << n);
+    let added = above >> n;
+    let first = first_word(kind, n, a, b);
+    let second = second_word(kind, b, added);
+    let got = shown(c, table, first, second);
+    let wanted = word_for(kind, n, a, b, added);
     Answer::Differs {
         steps,
         terms,
         a,
         b,
+        c: added,
         got,
         wanted,
     }

@@ -32,21 +32,22 @@ five-put a b c d e (v ∷ w ∷ x ∷ y ∷ []) h = absurd (omega arith)
 five-put a b c d e (v ∷ w ∷ x ∷ y ∷ z ∷ list) h = refl
 
 -- two words in front
-pub two-put : (a b : ℕ) (list : List ℕ) → 6 ≤ length list → set (set list 0 a) 1 b ≡ a ∷ b ∷ drop 2 list
+pub two-put : (a b : ℕ) (list : List ℕ) → 7 ≤ length list → set (set list 0 a) 1 b ≡ a ∷ b ∷ drop 2 list
 two-put a b [] h = absurd (omega arith)
 two-put a b (v ∷ []) h = absurd (omega arith)
 two-put a b (v ∷ w ∷ list) h = refl
 
--- six words in front
-pub six-put : (a b c d e f : ℕ) (list : List ℕ) → 6 ≤ length list
-    → set (set (set (set (set (set list 0 a) 1 b) 2 c) 3 d) 4 e) 5 f ≡ a ∷ b ∷ c ∷ d ∷ e ∷ f ∷ drop 6 list
-six-put a b c d e f [] h = absurd (omega arith)
-six-put a b c d e f (v ∷ []) h = absurd (omega arith)
-six-put a b c d e f (v ∷ w ∷ []) h = absurd (omega arith)
-six-put a b c d e f (v ∷ w ∷ x ∷ []) h = absurd (omega arith)
-six-put a b c d e f (v ∷ w ∷ x ∷ y ∷ []) h = absurd (omega arith)
-six-put a b c d e f (v ∷ w ∷ x ∷ y ∷ z ∷ []) h = absurd (omega arith)
-six-put a b c d e f (u ∷ v ∷ w ∷ x ∷ y ∷ z ∷ list) h = refl
+-- seven words in front
+pub seven-put : (a b c d e f g : ℕ) (list : List ℕ) → 7 ≤ length list
+    → set (set (set (set (set (set (set list 0 a) 1 b) 2 c) 3 d) 4 e) 5 f) 6 g ≡ a ∷ b ∷ c ∷ d ∷ e ∷ f ∷ g ∷ drop 7 list
+seven-put a b c d e f g [] h = absurd (omega arith)
+seven-put a b c d e f g (v ∷ []) h = absurd (omega arith)
+seven-put a b c d e f g (v ∷ w ∷ []) h = absurd (omega arith)
+seven-put a b c d e f g (v ∷ w ∷ x ∷ []) h = absurd (omega arith)
+seven-put a b c d e f g (v ∷ w ∷ x ∷ y ∷ []) h = absurd (omega arith)
+seven-put a b c d e f g (v ∷ w ∷ x ∷ y ∷ z ∷ []) h = absurd (omega arith)
+seven-put a b c d e f g (u ∷ v ∷ w ∷ x ∷ y ∷ z ∷ []) h = absurd (omega arith)
+seven-put a b c d e f g (t ∷ u ∷ v ∷ w ∷ x ∷ y ∷ z ∷ list) h = refl
 
 -- one word in front
 pub one-put : (a : ℕ) (list : List ℕ) → 1 ≤ length list → set list 0 a ≡ a ∷ drop 1 list
@@ -193,16 +194,16 @@ refusal-put a k lent e = (rw e, rw e)
 pub answer-says : (a q : Answer) → a ≡ q → says a ≡ says q
 answer-says a q e = ap says e
 
--- no room for six values
-pub judge-short : (x : Inputs) (lent : List ℕ) → length lent < 6 → JudgeGiven x lent 112 (x .store) (x .scratch) (x .log) lent
+-- no room for seven values
+pub judge-short : (x : Inputs) (lent : List ℕ) → length lent < 7 → JudgeGiven x lent 112 (x .store) (x .scratch) (x .log) lent
 unfolding number-of given
 judge-short x lent h =
     record {
-      number = rw (said-short 6 lent (judging x) h);
-      store-words = rw (lt-ltb (length lent) 6 h);
-      scratch-words = rw (lt-ltb (length lent) 6 h);
-      log-records = rw (lt-ltb (length lent) 6 h);
-      answer-words = rw (said-short 6 lent (judging x) h);
+      number = rw (said-short 7 lent (judging x) h);
+      store-words = rw (lt-ltb (length lent) 7 h);
+      scratch-words = rw (lt-ltb (length lent) 7 h);
+      log-records = rw (lt-ltb (length lent) 7 h);
+      answer-words = rw (said-short 7 lent (judging x) h);
     }
 
 module _ (x : Inputs) (lent : List ℕ) (a : Answer) (store scratch : List ℕ) (log : List StepRecord) (done : Judged x a store scratch log) where
@@ -216,13 +217,13 @@ module _ (x : Inputs) (lent : List ℕ) (a : Answer) (store scratch : List ℕ) 
       go (suc j) l h = let same : suc j ≡ k = cc in rw same at l
 
   -- what the judge says, given
-  pub judge-given : (r : ℕ) (exit : List ℕ) → 6 ≤ length lent → (r ≡ number-of (says a)) × (exit ≡ given (says a) lent)
+  pub judge-given : (r : ℕ) (exit : List ℕ) → 7 ≤ length lent → (r ≡ number-of (says a)) × (exit ≡ given (says a) lent)
       → JudgeGiven x lent r store scratch log exit
   judge-given r exit h put =
       record {
-        number = put .0 ∙ rw (said-later 6 lent (judging x) h, done .said);
-        store-words = rw (le-ltb (length lent) 6 h) (done .store-words);
-        scratch-words = rw (le-ltb (length lent) 6 h) (done .scratch-words);
-        log-records = rw (le-ltb (length lent) 6 h) (done .log-records);
-        answer-words = put .1 ∙ rw (said-later 6 lent (judging x) h, done .said);
+        number = put .0 ∙ rw (said-later 7 lent (judging x) h, done .said);
+        store-words = rw (le-ltb (length lent) 7 h) (done .store-words);
+        scratch-words = rw (le-ltb (length lent) 7 h) (done .scratch-words);
+        log-records = rw (le-ltb (length lent) 7 h) (done .log-records);
+        answer-words = put .1 ∙ rw (said-later 7 lent (judging x) h, done .said);
       }

@@ -59,14 +59,14 @@ pub record EvaluateGiven (c : Counts) (table : List ℕ) (x y : ℕ) (word : Lis
 
 -- what the judge says to a host
 abbrev pub judge-said : Inputs → List ℕ → Says
-judge-said x answer = unless-short 6 answer (judging x)
+judge-said x answer = unless-short 7 answer (judging x)
 
 -- the permitted outcome of `hraskell_judge`
 pub record JudgeGiven (x : Inputs) (answer : List ℕ) (r : ℕ) (store scratch : List ℕ) (log : List StepRecord) (answer-exit : List ℕ) : Type 0 where
   pub number : r ≡ number-of (judge-said x answer)
-  pub store-words : store ≡ cond (ltb (length answer) 6) (x .store) (store-after x)
-  pub scratch-words : scratch ≡ cond (ltb (length answer) 6) (x .scratch) (scratch-after x)
-  pub log-records : log ≡ cond (ltb (length answer) 6) (x .log) (log-after x)
+  pub store-words : store ≡ cond (ltb (length answer) 7) (x .store) (store-after x)
+  pub scratch-words : scratch ≡ cond (ltb (length answer) 7) (x .scratch) (scratch-after x)
+  pub log-records : log ≡ cond (ltb (length answer) 7) (x .log) (log-after x)
   pub answer-words : answer-exit ≡ given (judge-said x answer) answer
 
 -- a refusal's number is one that the judge gives

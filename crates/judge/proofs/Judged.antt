@@ -5,18 +5,17 @@ use mathlib.Core.List.{List, [], _∷_}
 use Prim.Native.Nat.{ℕ, zero, suc, _+_, _*_, _≤_}
 use native.Mathlib.Nat.{mul-le-mul-right}
 use native.Mathlib.Omega.{arith}
-use lib.Dec.{T, leb, ltb, eqb}
+use lib.Dec.{T, leb, ltb}
 use lib.ListN.{length}
-use borrow.Author.Tests.{ltb-false, leb-true, leb-false, eqb-true, not-false}
+use borrow.Author.Tests.{ltb-false, leb-true, leb-false, not-false}
 use Rattle.rules.specs.Each.{every}
-use Rattle.rules.specs.Judging.{Inputs, Judged, is-gate, set-width, term-width, kind-wrong, order-wrong, most-made, scratch-needed, lent-short, judge-checks, ended}
+use Rattle.rules.specs.Judging.{misfits, Inputs, Judged, is-gate, set-width, term-width, kind-wrong, order-wrong, most-made, scratch-needed, lent-short, judge-checks, ended}
 use Rattle.rules.specs.Judging.{checks, refusal, polynomials, judging, store-after, scratch-after, log-after, kept-or}
 use Rattle.rules.specs.Limits.{most-steps, terms-wrong, steps-wrong}
 use Rattle.rules.specs.Netlist.{counts-wrong, table-short, table-unsound}
-use Rattle.rules.specs.Product.{kind-of, kind-unknown, outputs-of}
+use Rattle.rules.specs.Product.{kind-of, kind-unknown}
 use Rattle.rules.specs.Says.{refuses, answers, says, first, refuse-or}
 use Rattle.rules.specs.Steps.{start}
-use Rattle.rules.specs.Values.{width}
 use Rattle.rules.specs.declared.answers.Answer.{Answer}
 use Rattle.rules.specs.declared.answers.StepRecord.{StepRecord}
 use Rattle.rules.specs.declared.counts.Counts.{Counts}
@@ -24,7 +23,6 @@ use Rattle.rules.specs.declared.records.RecordKind.{RecordKind}
 use Rattle.rules.specs.declared.records.RecordKind.the-variants.{Gates, Cells}
 use Rattle.words.specs.Stored.{decoded}
 use Rattle.netlist.proofs.Facts.{passed as fitting}
-use Rattle.product.proofs.Readings.{kind-known}
 use Rattle.checks.proofs.Checked.{limit-small, row-later}
 use Rattle.rules.proofs.Indices.{neither}
 use Rattle.judge.specs.Running.{Running, Finished}
@@ -83,7 +81,7 @@ module _ (c : Counts) (table : List ℕ) (kind limit : ℕ) (order store scratch
   all-passed log h =
       let four = row-later (counts-wrong c) (table-short c (length table)) (table-unsound c table) (kind-wrong c kind) _ h in
       let three = later-passed (terms-wrong limit) (order-wrong c order) (lent-short c limit (length order) (length store) (length scratch) log) (four .4) in
-      let kinds = neither (kind-unknown kind) (not (eqb (c .o) (outputs-of (kind-of kind) (width c)))) (four .3) in
+      let kinds = neither (kind-unknown kind) (misfits c (kind-of kind)) (four .3) in
       let orders = neither (steps-wrong (length order)) (not (every (is-gate c) order)) (three .1) in
       let short-store = ltb (length store) (limit * term-width c) in
       let short-scratch = ltb (length scratch) (scratch-needed c limit) in
@@ -92,8 +90,7 @@ module _ (c : Counts) (table : List ℕ) (kind limit : ℕ) (order store scratch
       record {
         block = record {
           sound = record { fitting = fitting (four .0) (four .1); literals = four .2 };
-          known = kind-known kind (kinds .0);
-          outputs = eqb-true (c .o) (outputs-of (kind-of kind) (width c)) (not-false _ (kinds .1));
+          fitting = kinds .1;
           taken = limit-small limit (three .0);
           store-room = ltb-false (length store) (limit * term-width c) (words .0);
           scratch-room = four-enough (c .records) limit (term-width c) (length scratch) (ltb-false (length scratch) (scratch-needed c limit) (words .1));

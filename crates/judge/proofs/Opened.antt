@@ -14,14 +14,14 @@ use Rattle.rules.specs.Each.{every}
 use Rattle.rules.specs.Judging.{set-width, term-width, roomy, held, completed, ended, verdict, polynomial-words, padded, over}
 use Rattle.rules.specs.Netlist.{needed, table-short, table-sound, table-unsound}
 use Rattle.rules.specs.Polynomial.{Polynomial, Below, Coefficients}
-use Rattle.rules.specs.Product.{Kind, kind-of, outputs-of}
+use Rattle.rules.specs.Product.{Kind, kind-of, operand-width, outputs-of}
 use Rattle.rules.specs.Says.{says, answers}
 use Rattle.rules.specs.Steps.{modulus, start, trail, run, after}
-use Rattle.rules.specs.Values.{width}
 use Rattle.rules.specs.declared.answers.Answer.{Answer}
 use Rattle.rules.specs.declared.answers.StepRecord.{StepRecord}
 use Rattle.rules.specs.declared.counts.Counts.{Counts}
 use Rattle.rules.proofs.Sound.{right-counts, sound-table}
+use Rattle.rules.proofs.Places.{fits}
 use Rattle.words.specs.Stored.{decoded}
 use Rattle.words.proofs.Encoded.{length-padded}
 use Rattle.rules.proofs.Bits.{bit-first}
@@ -38,7 +38,7 @@ use Rattle.judge.proofs.Held.{decoded-held, words-fit, running-decoded,
 use Rattle.judge.proofs.Going.{path, trail-first, roomy-full, roomy-next}
 
 -- the polynomials of the run, with the modulus that O gives
-run-path : (kind : Kind) (c : Counts) (table order : List ℕ) → c .o ≡ outputs-of kind (width c) → run kind c table order ≡ path c table (start kind c table) order
+run-path : (kind : Kind) (c : Counts) (table order : List ℕ) → c .o ≡ outputs-of kind (operand-width kind c) → run kind c table order ≡ path c table (start kind c table) order
 unfolding run modulus
 run-path kind c table order e = ap (λ (l : ℕ). trail (2 ^ l) c table (start kind c table) order) (sym e)
 
@@ -77,7 +77,7 @@ module _ {c : Counts} {table : List ℕ} {kind limit : ℕ} {store scratch : Lis
         counts = s .fitting .counts;
         long = ltb-false (length table) (needed c) (s .fitting .long);
         sound = not-false (table-sound c table) (s .literals);
-        outputs = b .outputs;
+        fitting = b .fitting;
         room = rw lent (b .store-room);
         zeros = rw lent e;
       }
@@ -97,7 +97,7 @@ module _ {c : Counts} {table : List ℕ} {kind limit : ℕ} {store scratch : Lis
       let right = right-counts c (s .fitting .counts) in
       let sound = sound-table c table (not-false (table-sound c table) (s .literals)) in
       let shape = run-shape (kind-of kind) c table right sound [] refl 0 (omega arith) in
-      (shape .falling, subst (λ (l : ℕ). Coefficients (2 ^ l) (start (kind-of kind) c table)) (sym (b .outputs)) (shape .coefficients))
+      (shape .falling, subst (λ (l : ℕ). Coefficients (2 ^ l) (start (kind-of kind) c table)) (sym (fits (kind-of kind) c (s .fitting .counts) (b .fitting) .outputs)) (shape .coefficients))
 
   -- a start with room begins a run
   pub opened : {r : ℕ} {store′ scratch′ : List ℕ} → Begun c limit (start (kind-of kind) c table) store scratch r store′ scratch′ → r ≤ limit
@@ -128,7 +128,7 @@ module _ {c : Counts} {table : List ℕ} {kind limit : ℕ} {order store scratch
   all = run (kind-of kind) c table order
 
   all-path : all ≡ path c table first order
-  all-path = run-path (kind-of kind) c table order (p .block .outputs)
+  all-path = run-path (kind-of kind) c table order (fits (kind-of kind) c (p .block .sound .fitting .counts) (p .block .fitting) .outputs)
 
   -- the run's first polynomial is the start
   all-first : (getD all 0 [] ≡ first) × (0 < length all)
@@ -221,7 +221,7 @@ module _ {c : Counts} {table : List ℕ} {kind limit : ℕ} {order store scratch
         let lent : length store₂ ≡ length store₁ = ap length (g .store-words) ∙ length-padded (length store₁) (polynomial-words (set-width c) (held limit all)) fit in
         record {
           sound = p .block .sound;
-          known = p .block .known;
+          fitting = p .block .fitting;
           room = omega (arith, o .running .store-room, mul-le-mul-right (term-width c) (g .few));
           falls = rw held-words (g .falls);
           even = rw held-words held-even;

@@ -6,13 +6,12 @@ use Prim.Native.Nat.{ℕ, zero, suc, _+_, _*_, _≤_}
 use lib.Dec.{leb}
 use lib.ListN.{length, replicate}
 use Rattle.rules.specs.Each.{every}
-use Rattle.rules.specs.Judging.{Inputs, is-gate, set-width, term-width, judge-checks, held, completed, ended, verdict, polynomial-words, padded, over, records, judging, store-after, scratch-after}
+use Rattle.rules.specs.Judging.{Inputs, misfits, is-gate, set-width, term-width, judge-checks, held, completed, ended, verdict, polynomial-words, padded, over, records, judging, store-after, scratch-after}
 use Rattle.rules.specs.Limits.{most-terms, most-steps}
 use Rattle.rules.specs.Polynomial.{Polynomial}
-use Rattle.rules.specs.Product.{kind-of, outputs-of}
+use Rattle.rules.specs.Product.{kind-of}
 use Rattle.rules.specs.Says.{Says, refuses, answers, first, says}
 use Rattle.rules.specs.Steps.{start, run}
-use Rattle.rules.specs.Values.{width}
 use Rattle.rules.specs.declared.answers.Answer.{Answer}
 use Rattle.rules.specs.declared.answers.StepRecord.{StepRecord}
 use Rattle.rules.specs.declared.counts.Counts.{Counts}
@@ -37,11 +36,10 @@ handed c table kind limit order store scratch log =
       log = log;
     }
 
--- a sound block of a known kind, a limit that is taken, and room for its terms
+-- a sound block that fits its kind, a limit that is taken, and room for its terms
 pub record Block (c : Counts) (table : List ℕ) (kind limit : ℕ) (store scratch : List ℕ) : Type 0 where
   pub sound : Sound c table
-  pub known : kind ≤ 2
-  pub outputs : c .o ≡ outputs-of (kind-of kind) (width c)
+  pub fitting : misfits c (kind-of kind) ≡ false
   pub taken : limit ≤ most-terms
   pub store-room : limit * term-width c ≤ length store
   pub scratch-room : 4 * limit * term-width c ≤ length scratch

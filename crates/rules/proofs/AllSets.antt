@@ -3,17 +3,17 @@ use mathlib.Core.Path.{_≡_}
 use mathlib.Core.Bool.{Bool, true, false, cond}
 use mathlib.Core.List.{List, [], _∷_}
 use mathlib.Core.Logic.{⊎-elim}
-use Prim.Native.Nat.{ℕ, zero, suc, _+_, _-_, _%_, _^_, _<_}
+use Prim.Native.Nat.{ℕ, zero, suc, _+_, _-_, _*_, _%_, _^_, _<_}
 use native.Mathlib.Omega.{arith}
 use lib.Dec.{eqb, ltb}
 use lib.IntN.{ℤ}
 use Rattle.rules.specs.Each.{joined}
 use Rattle.rules.specs.Netlist.{variable, inverted, output, record-at, EveryVariable}
-use Rattle.rules.specs.Values.{width, bit}
-use Rattle.rules.specs.Product.{Kind}
-use Rattle.rules.specs.Polynomial.{Term, Polynomial, Under, keep, place, insert, gather, with-variable, times-variable, times-literal, times-chosen}
+use Rattle.rules.specs.Values.{bit}
+use Rattle.rules.specs.Product.{Kind, operand-width, addend-width, product-term, addend-term, specification}
+use Rattle.rules.specs.Polynomial.{Term, Polynomial, Under, keep, place, insert, gather, minus, with-variable, times-variable, times-literal, times-chosen}
 use Rattle.rules.specs.Cells.{coefficient, above, below, scaled}
-use Rattle.rules.specs.Steps.{modulus, product-term, start-terms, where-held, times-subset, times-whole, times-record, replaced, all-replaced, step}
+use Rattle.rules.specs.Steps.{modulus, start-terms, where-held, times-subset, times-whole, times-record, replaced, all-replaced, step}
 use Rattle.rules.specs.declared.counts.Counts.{Counts}
 use Rattle.rules.specs.declared.records.Record.{Record}
 use Rattle.rules.specs.declared.records.Record.the-variants.{Gate, Cell}
@@ -86,20 +86,39 @@ Joins P v = 0 < v → (s : ℕ) → P s → P (with-variable s v)
 pub all-literal-sets : (P : ℕ → Type 0) (m x : ℕ) (p : Polynomial) → Joins P (variable x) → AllSets P p → AllSets P (times-literal m x p)
 all-literal-sets P m x p joins = all-literal (λ t. P (t .1)) m x p (λ l t h. (joins l (t .1) h, joins l (t .1) h))
 
--- of the start's terms: P holds of the empty set, stays with the outputs' variables, and holds of the sets of the product
+-- of the sets of minus a polynomial
+all-minus : (P : ℕ → Type 0) (m : ℕ) (p : Polynomial) → AllSets P p → AllSets P (minus m p)
+unfolding minus
+all-minus P m [] h = tt
+all-minus P m (t ∷ p) h = (h .0, all-minus P m p (h .1))
+
+-- of the sets of a specification: two bits of a and b, and one bit of c
+all-specification : (P : ℕ → Type 0) (kind : Kind) (m n : ℕ)
+    → ((i j : ℕ) → i < n → j < n → P (2 ^ (1 + i) + 2 ^ (n + 1 + j)))
+    → ((k : ℕ) → k < addend-width kind n → P (2 ^ (2 * n + 1 + k)))
+    → AllSets P (specification kind m n)
+unfolding specification product-term addend-term
+all-specification P kind m n two one =
+    let products : ℕ → ℕ → Polynomial = λ i j. product-term kind m n i j ∷ [] in
+    let addends : ℕ → Polynomial = λ k. addend-term n k ∷ [] in
+    all-append (λ t. P (t .1)) (joined n (λ i. joined n (products i))) (joined (addend-width kind n) addends)
+    (all-joined (λ t. P (t .1)) n (λ i. joined n (products i)) (λ i k. all-joined (λ t. P (t .1)) n (products i) (λ j l. (two i j k l, tt))))
+    (all-joined (λ t. P (t .1)) (addend-width kind n) addends (λ k l. (one k l, tt)))
+
+-- of the start's terms: P holds of the empty set, stays with the outputs' variables, and holds of the sets of the specification
 pub all-start : (P : ℕ → Type 0) (kind : Kind) (c : Counts) (table : List ℕ) → P 0
     → ((i : ℕ) → i < c .o → Joins P (variable (output table i)))
-    → ((i j : ℕ) → i < width c → j < width c → P (2 ^ (1 + i) + 2 ^ (width c + 1 + j)))
+    → ((i j : ℕ) → i < operand-width kind c → j < operand-width kind c → P (2 ^ (1 + i) + 2 ^ (operand-width kind c + 1 + j)))
+    → ((k : ℕ) → k < addend-width kind (operand-width kind c) → P (2 ^ (2 * operand-width kind c + 1 + k)))
     → AllSets P (start-terms kind c table)
-unfolding start-terms product-term
-all-start P kind c table none joins two =
+unfolding start-terms
+all-start P kind c table none joins two one =
     let m = modulus kind c in
+    let n = operand-width kind c in
     let outputs : ℕ → Polynomial = λ i. times-literal m (output table i) ((2 ^ i, 0) ∷ []) in
-    let products : ℕ → ℕ → Polynomial = λ i j. product-term kind m (width c) i j ∷ [] in
-    all-append (λ t. P (t .1)) (joined (c .o) outputs) (joined (width c) (λ i. joined (width c) (products i)))
+    all-append (λ t. P (t .1)) (joined (c .o) outputs) (minus m (specification kind m n))
     (all-joined (λ t. P (t .1)) (c .o) outputs (λ i l. all-literal-sets P m (output table i) ((2 ^ i, 0) ∷ []) (joins i l) (none, tt)))
-    (all-joined (λ t. P (t .1)) (width c) (λ i. joined (width c) (products i))
-    (λ i k. all-joined (λ t. P (t .1)) (width c) (products i) (λ j l. (two i j k l, tt))))
+    (all-minus P m (specification kind m n) (all-specification P kind m n two one))
 
 -- of the sets of a polynomial times a variable, where it is chosen
 all-chosen : (P : ℕ → Type 0) (d v : ℕ) (p : Polynomial) → Joins P v → AllSets P p → AllSets P (times-chosen d v p)

@@ -5,8 +5,9 @@ pub mod Indices
 pub mod All
 pub mod Remainders
 pub mod Bits
--- counts and tables
+-- counts, tables and kinds
 pub mod Sound
+pub mod Places
 -- polynomials, and the polynomials of a run
 pub mod Weighed
 pub mod Terms

@@ -39,7 +39,7 @@ made-of (answers k x) = Within (record { terms = getD x 0 0; variables = getD x 
 answer-of : Says → Answer
 answer-of (refuses k) = RefusedAnswer k
 answer-of (answers zero x) = Equal (getD x 0 0) (getD x 1 0)
-answer-of (answers (suc zero) x) = Differs (getD x 0 0) (getD x 1 0) (getD x 2 0) (getD x 3 0) (getD x 4 0) (getD x 5 0)
+answer-of (answers (suc zero) x) = Differs (getD x 0 0) (getD x 1 0) (getD x 2 0) (getD x 3 0) (getD x 4 0) (getD x 5 0) (getD x 6 0)
 answer-of (answers (suc (suc zero)) x) = OutOfRoom (getD x 0 0) (getD x 1 0)
 answer-of (answers (suc (suc (suc k))) x) = Unfinished (getD x 0 0) (getD x 1 0)
 
@@ -61,7 +61,7 @@ made-back (RefusedMade k) = refl
 answer-back : (r : Answer) → answer-of (says r) ≡ r
 unfolding answer-of says
 answer-back (Equal s t) = refl
-answer-back (Differs s t a b g w) = refl
+answer-back (Differs s t a b c g w) = refl
 answer-back (OutOfRoom s t) = refl
 answer-back (Unfinished s t) = refl
 answer-back (RefusedAnswer k) = refl
@@ -92,7 +92,7 @@ pub evaluated-one : {c : Counts} {table : List ℕ} {a b : ℕ} {r q : Word} →
 evaluated-one {r = r} {q = q} x y = word-known r q (x .said ∙ sym (y .said))
 
 -- one outcome of asking for the wanted word
-pub wanted-one : {kind n a b : ℕ} {r q : Word} → Wanted kind n a b r → Wanted kind n a b q → r ≡ q
+pub wanted-one : {kind n a b c : ℕ} {r q : Word} → Wanted kind n a b c r → Wanted kind n a b c q → r ≡ q
 wanted-one {r = r} {q = q} x y = word-known r q (x .said ∙ sym (y .said))
 
 -- one outcome of reading

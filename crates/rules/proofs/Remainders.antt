@@ -63,6 +63,10 @@ module _ (m : ℕ) (positive : 0 < m) where
   modulo-cond true x = less-rest x
   modulo-cond false x = refl
 
+  -- it is less than m
+  pub modulo-rest : (p : Bool) (x : ℕ) → modulo m p x % m ≡ modulo m p x
+  modulo-rest p x = rw (modulo-cond p x, mod-mod)
+
   -- the sign and the size of a product
   pub modulo-mul : (p q : Bool) (a b x y : ℕ) → a % m ≡ modulo m p x → b % m ≡ modulo m q y
       → (a * b) % m ≡ modulo m (xor p q) (x * y)

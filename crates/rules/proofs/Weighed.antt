@@ -2,12 +2,12 @@
 use mathlib.Core.Path.{_≡_, refl, sym}
 use mathlib.Core.Bool.{Bool, true, false, cond}
 use mathlib.Core.List.{[], _∷_, _++_}
-use Prim.Native.Nat.{ℕ, zero, suc, _+_, _*_, _%_}
-use native.Mathlib.Nat.{add-assoc, add-left-comm, add-zero, zero-add, add-mul, zero-mul, mul-zero, mul-one, mod-add-mod, add-mod-mod}
+use Prim.Native.Nat.{ℕ, zero, suc, _+_, _-_, _*_, _%_}
+use native.Mathlib.Nat.{add-assoc, add-left-comm, add-zero, zero-add, add-mul, zero-mul, mul-zero, mul-one, mul-add, mul-assoc, mod-add-mod, add-mod-mod}
 use lib.Dec.{ltb, eqb}
 use borrow.Author.Tests.{eqb-true}
 use Rattle.rules.specs.Each.{sum, joined}
-use Rattle.rules.specs.Polynomial.{Term, Polynomial, hit, coefficient-at, keep, place, insert, gather}
+use Rattle.rules.specs.Polynomial.{Term, Polynomial, hit, coefficient-at, keep, place, insert, gather, minus}
 use Rattle.rules.proofs.Remainders.{mod-mul-mod}
 
 -- the sum of the coefficients, each times the weight of its set
@@ -41,6 +41,12 @@ module _ (weight : ℕ → ℕ) where
   unfolding weighed
   weighed-append [] q = sym (zero-add (weighed weight q))
   weighed-append (t ∷ p) q = rw (weighed-append p q, add-assoc)
+
+  -- minus a polynomial
+  pub weighed-minus : (m : ℕ) (p : Polynomial) → weighed weight (minus m p) ≡ (m - 1) * weighed weight p
+  unfolding weighed minus
+  weighed-minus m [] = sym (mul-zero (m - 1))
+  weighed-minus m (t ∷ p) = rw (weighed-minus m p, mul-add, mul-assoc)
 
   -- lists at the indices below a bound
   pub weighed-joined : (n : ℕ) (list : ℕ → Polynomial) → weighed weight (joined n list) ≡ sum n (λ i. weighed weight (list i))

@@ -13,16 +13,16 @@ use Rattle.rules.specs.Says.{Says, refuses, answers, first, refuse-or}
 use Rattle.rules.specs.Limits.{terms-wrong, steps-wrong}
 use Rattle.rules.specs.Netlist.{counts-right, record-words, needed, variable, inverted, gate, output, rhs0, rhs1, cell-word, record-of, record-at, output-sound, gate-sound, cell-sound, record-sound, table-sound, counts-wrong, table-short, table-unsound}
 use Rattle.rules.specs.Values.{width, bit, turned, literal-value, input-values, record-value, gate-value, values-to, values, shown}
-use Rattle.rules.specs.Product.{kind-of, kind-unknown, outputs-of, operand, negative, size, modulo, product}
-use Rattle.rules.specs.Polynomial.{keep, place, insert, gather, with-variable, times-variable, times-chosen, times-literal}
+use Rattle.rules.specs.Product.{kind-of, kind-unknown, complement, adds, shares, operand-width, addend-width, operand-a, operand-b, operand-c, first-word, second-word, outputs-of, operand, negative, size, modulo, product, wanted-word, below-zero, product-term, addend-term, specification}
+use Rattle.rules.specs.Polynomial.{keep, place, insert, gather, minus, with-variable, times-variable, times-chosen, times-literal}
 use Rattle.rules.specs.Cells.{lies-in, evenly, evens, odds, coefficient, above, below, scaled}
-use Rattle.rules.specs.Steps.{modulus, below-zero, product-term, start-terms, start, where-held, times-subset, times-whole, times-record, replaced, all-replaced, step, trail, run}
-use Rattle.rules.specs.Judging.{Inputs, set-width, term-width, kind-wrong, is-gate, order-wrong, most-made, scratch-needed, lent-short, judge-checks, roomy, held, completed, inputs-only, sooner, soonest, pair-a, pair-b, differs, ended, verdict, term-words, polynomial-words, padded, records, over, kept-or, checks, refusal, polynomials, judging, store-after, scratch-after, log-after}
+use Rattle.rules.specs.Steps.{modulus, start-terms, start, where-held, times-subset, times-whole, times-record, replaced, all-replaced, step, trail, run}
+use Rattle.rules.specs.Judging.{Inputs, set-width, term-width, misfits, kind-wrong, is-gate, order-wrong, most-made, scratch-needed, lent-short, judge-checks, roomy, held, completed, inputs-only, sooner, soonest, shown-for, differs, ended, verdict, term-words, polynomial-words, padded, records, over, kept-or, checks, refusal, polynomials, judging, store-after, scratch-after, log-after}
 use Rattle.rules.specs.Text.{digits, decimal}
 use Rattle.rules.specs.Reading.{Netlist, netlist, refused, digit, leading-digits, value-from, well-written, behind, with-numbers, and-then, field, fields, word, header-line, tested, input-line, output-line, gate-line, lines, end-read, gates-read, outputs-read, inputs-read, counts-read, counts-of, header-read, reading}
 use Rattle.rules.specs.declared.answers.StepRecord.{StepRecord}
 use Rattle.rules.specs.declared.counts.Counts.{Counts}
-use Rattle.rules.specs.Desk.{falling, desk-checks, desk-judging, desk-sized, desk-read, kind-named, desk-kind, desk-lines, desk-long, desk-says, letter, spaced, printed, desk-line}
+use Rattle.rules.specs.Desk.{falling, desk-checks, desk-judging, desk-sized, desk-read, kind-line, begins, asked-below, kind-asked, desk-kind, desk-lines, desk-long, desk-says, letter, spaced, printed, told, desk-line}
 
 -- the bytes of a text
 unfoldable pub bytes : String → List ℕ
@@ -111,11 +111,11 @@ unfoldable pub right : Row → Bool
 unfolding same same-records same-says handed filled words-right judged-right read-right each sum joined listed every first refuse-or
     terms-wrong steps-wrong counts-right needed variable inverted gate output rhs0 rhs1 output-sound gate-sound table-sound
     counts-wrong table-short table-unsound width bit turned literal-value input-values gate-value values-to values shown
-    kind-of kind-unknown outputs-of operand negative size modulo product xor ones onesIn
-    keep place insert gather with-variable times-variable times-literal
-    modulus below-zero product-term start-terms start where-held replaced all-replaced step trail run
-    set-width term-width kind-wrong is-gate order-wrong lent-short judge-checks roomy held completed inputs-only sooner
-    soonest pair-a pair-b differs ended verdict term-words polynomial-words padded records over kept-or checks refusal polynomials judging
+    kind-of kind-unknown complement adds shares operand-width addend-width outputs-of operand negative size modulo product wanted-word xor ones onesIn
+    keep place insert gather minus with-variable times-variable times-literal
+    modulus below-zero product-term addend-term specification start-terms start where-held replaced all-replaced step trail run
+    set-width term-width misfits kind-wrong is-gate order-wrong lent-short judge-checks roomy held completed inputs-only sooner
+    soonest operand-a operand-b operand-c first-word second-word shown-for differs ended verdict term-words polynomial-words padded records over kept-or checks refusal polynomials judging
     store-after scratch-after log-after
     record-words cell-word record-of record-at cell-sound record-sound record-value lies-in evenly evens odds coefficient above below scaled
     times-chosen times-subset times-whole times-record most-made scratch-needed
@@ -163,15 +163,15 @@ unfoldable pub bench-sheet : List Row
 bench-sheet =
     sheet (and-block "6\n0\n") 0 (3 ∷ []) 2 (answers 0 (1 ∷ 0 ∷ [])) [] (0 ∷ [])
     ∷ sheet (and-block "6\n0\n") 1 (3 ∷ []) 2 (answers 0 (1 ∷ 0 ∷ [])) [] (0 ∷ [])
-    ∷ sheet (and-block "6\n6\n") 0 (3 ∷ []) 2 (answers 1 (1 ∷ 1 ∷ 1 ∷ 1 ∷ 3 ∷ 1 ∷ [])) (2 ∷ 6 ∷ []) (1 ∷ [])
-    ∷ sheet (and-block "6\n6\n") 1 (3 ∷ []) 2 (answers 1 (1 ∷ 1 ∷ 1 ∷ 1 ∷ 3 ∷ 1 ∷ [])) (2 ∷ 6 ∷ []) (1 ∷ [])
-    ∷ sheet (and-block "7\n0\n") 0 (3 ∷ []) 3 (answers 1 (1 ∷ 2 ∷ 0 ∷ 0 ∷ 1 ∷ 0 ∷ [])) (2 ∷ 6 ∷ 1 ∷ 0 ∷ []) (2 ∷ [])
+    ∷ sheet (and-block "6\n6\n") 0 (3 ∷ []) 2 (answers 1 (1 ∷ 1 ∷ 1 ∷ 1 ∷ 0 ∷ 3 ∷ 1 ∷ [])) (2 ∷ 6 ∷ []) (1 ∷ [])
+    ∷ sheet (and-block "6\n6\n") 1 (3 ∷ []) 2 (answers 1 (1 ∷ 1 ∷ 1 ∷ 1 ∷ 0 ∷ 3 ∷ 1 ∷ [])) (2 ∷ 6 ∷ []) (1 ∷ [])
+    ∷ sheet (and-block "7\n0\n") 0 (3 ∷ []) 3 (answers 1 (1 ∷ 2 ∷ 0 ∷ 0 ∷ 0 ∷ 1 ∷ 0 ∷ [])) (2 ∷ 6 ∷ 1 ∷ 0 ∷ []) (2 ∷ [])
     ∷ sheet (and-block "6\n0\n") 0 [] 2 (answers 3 (0 ∷ 2 ∷ [])) (1 ∷ 8 ∷ 3 ∷ 6 ∷ []) []
     ∷ sheet (and-block "6\n0\n") 0 (3 ∷ 3 ∷ []) 2 (answers 0 (2 ∷ 0 ∷ [])) [] (0 ∷ 0 ∷ [])
     ∷ sheet (bytes "aag 3 2 0 1 1\n2\n4\n6\n6 4 2\n") 2 (3 ∷ []) 2 (answers 0 (1 ∷ 0 ∷ [])) [] (0 ∷ [])
-    ∷ sheet desk-example 0 (3 ∷ []) 3 (answers 1 (1 ∷ 3 ∷ 1 ∷ 0 ∷ 1 ∷ 0 ∷ [])) (2 ∷ 6 ∷ 1 ∷ 4 ∷ 1 ∷ 2 ∷ []) (3 ∷ [])
+    ∷ sheet desk-example 0 (3 ∷ []) 3 (answers 1 (1 ∷ 3 ∷ 1 ∷ 0 ∷ 0 ∷ 1 ∷ 0 ∷ [])) (2 ∷ 6 ∷ 1 ∷ 4 ∷ 1 ∷ 2 ∷ []) (3 ∷ [])
     ∷ sheet two-bits 0 ten-down 8 (answers 0 (10 ∷ 0 ∷ [])) [] (10 ∷ 13 ∷ 8 ∷ 10 ∷ 13 ∷ 8 ∷ 6 ∷ 4 ∷ 2 ∷ 0 ∷ [])
-    ∷ sheet two-bits 1 ten-down 8 (answers 1 (10 ∷ 2 ∷ 2 ∷ 1 ∷ 2 ∷ 14 ∷ [])) (4 ∷ 18 ∷ 4 ∷ 12 ∷ []) (10 ∷ 13 ∷ 8 ∷ 10 ∷ 13 ∷ 8 ∷ 6 ∷ 5 ∷ 4 ∷ 2 ∷ [])
+    ∷ sheet two-bits 1 ten-down 8 (answers 1 (10 ∷ 2 ∷ 2 ∷ 1 ∷ 0 ∷ 2 ∷ 14 ∷ [])) (4 ∷ 18 ∷ 4 ∷ 12 ∷ []) (10 ∷ 13 ∷ 8 ∷ 10 ∷ 13 ∷ 8 ∷ 6 ∷ 5 ∷ 4 ∷ 2 ∷ [])
     ∷ []
 
 -- every row of the bench sheet is right
@@ -179,7 +179,13 @@ bench : every right bench-sheet ≡ true
 unfolding right bytes sheet and-block two-bit-gates two-bits ten-down desk-example bench-sheet
 bench = refl
 
+-- the desk's line; all that it is made of computes here
+unfoldable pub desk-prints : List ℕ → List ℕ
+unfolding right digits decimal falling desk-checks desk-judging desk-sized desk-read kind-line begins asked-below kind-asked desk-kind desk-lines
+    desk-long desk-says letter spaced printed told desk-line
+desk-prints input = desk-line input
+
 -- P9 as bytes through the desk's line
-desk-bench : desk-line (bytes "u\n" ++ desk-example) ≡ bytes "D 1 3 1 0 1 0\n"
-unfolding right bytes desk-example digits decimal falling desk-checks desk-judging desk-sized desk-read kind-named desk-kind desk-lines desk-long desk-says letter spaced printed desk-line
+desk-bench : desk-prints (bytes "u\n" ++ desk-example) ≡ bytes "D 1 3 1 0 1 0\n"
+unfolding bytes desk-example desk-prints
 desk-bench = refl

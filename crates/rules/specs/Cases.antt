@@ -14,7 +14,7 @@ use Rattle.rules.specs.Text.{digits, decimal, fields-text, header-text, 
 use Rattle.rules.specs.Reading.{Netlist, netlist, refused, reading}
 use Rattle.rules.specs.declared.counts.Counts.{Counts}
 use Rattle.rules.specs.declared.records.RecordKind.the-variants.{Gates, Cells}
-use Rattle.rules.specs.Bench.{Row, bytes, same-says, handed, judged-right, sheet, and-block, two-bit-gates, two-bits, ten-down, right}
+use Rattle.rules.specs.Bench.{Row, bytes, same-says, handed, judged-right, sheet, and-block, two-bit-gates, two-bits, ten-down, right, desk-prints}
 
 -- P1's block, kind, limit and order, with what is said; an answer leaves an empty store and 0 terms after each step
 unfoldable pub edge : ℕ → ℕ → List ℕ → Says → Row
@@ -70,6 +70,7 @@ edges =
     ∷ edge 0 128 (4 ∷ []) (refuses 11)
     ∷ edge 2 128 (3 ∷ []) (refuses 9)
     ∷ edge 3 128 (3 ∷ []) (refuses 9)
+    ∷ edge 5 128 (3 ∷ []) (refuses 9)
     ∷ edge 256 128 (3 ∷ []) (refuses 9)
     ∷ unfit (bytes "aag 1023 2 0 2 1021\n") 4
     ∷ unfit (bytes "aag 1024 2 0 2 1022\n") 2
@@ -108,7 +109,7 @@ winding = 11 ∷ 14 ∷ 13 ∷ 12 ∷ 10 ∷ 9 ∷ 8 ∷ 7 ∷ 6 ∷ 5 ∷ []
 unfoldable pub turns : List Row
 turns =
     sheet (bytes "aag 5 4 0 4 1\n2\n4\n6\n8\n6\n10\n0\n0\n10 4 2\n") 0 (5 ∷ []) 6
-    (answers 1 (1 ∷ 6 ∷ 0 ∷ 1 ∷ 1 ∷ 0 ∷ []))
+    (answers 1 (1 ∷ 6 ∷ 0 ∷ 1 ∷ 0 ∷ 1 ∷ 0 ∷ []))
     (12 ∷ 20 ∷ 14 ∷ 18 ∷ 14 ∷ 12 ∷ 15 ∷ 10 ∷ 1 ∷ 8 ∷ 2 ∷ 6 ∷ [])
     (6 ∷ [])
     ∷ sheet (bytes "aag 14 4 0 2 10\n2\n4\n6\n8\n10\n22\n" ++ two-bit-gates) 2 ten-down 5
@@ -116,6 +117,37 @@ turns =
     []
     (5 ∷ 5 ∷ 5 ∷ 8 ∷ 10 ∷ 6 ∷ 6 ∷ 4 ∷ 2 ∷ 0 ∷ [])
     ∷ sheet two-bits 0 winding 8 (answers 0 (10 ∷ 0 ∷ [])) [] (11 ∷ 12 ∷ 15 ∷ 10 ∷ 13 ∷ 8 ∷ 6 ∷ 4 ∷ 2 ∷ 0 ∷ [])
+    ∷ []
+
+-- a·b + c of one-bit a and b, and the same without the upper bit of c: wrong at c = 2
+unfoldable pub one-bit-sum : List ℕ
+one-bit-sum = bytes "aag 11 4 0 2 7\n2\n4\n6\n8\n16\n22\n10 4 2\n12 10 6\n14 11 7\n16 15 13\n18 12 8\n20 13 9\n22 21 19\n"
+
+unfoldable pub upper-bit-lost : List ℕ
+upper-bit-lost = bytes "aag 8 4 0 2 4\n2\n4\n6\n8\n16\n12\n10 4 2\n12 10 6\n14 11 7\n16 15 13\n"
+
+-- two-bit a and b: the outputs are c alone
+unfoldable pub product-lost : List ℕ
+product-lost = bytes "aag 8 8 0 4 0\n2\n4\n6\n8\n10\n12\n14\n16\n10\n12\n14\n16\n"
+
+-- six inputs, and the two outputs of n = 1
+unfoldable pub six-inputs : List ℕ
+six-inputs = bytes "aag 6 6 0 2 0\n2\n4\n6\n8\n10\n12\n2\n4\n"
+
+-- multiply and add under a kind: a right block, a wrong one with its operands, and six inputs, which are no multiple of four
+unfoldable pub added : ℕ → List Row
+added kind =
+    sheet one-bit-sum kind (11 ∷ 10 ∷ 9 ∷ 8 ∷ 7 ∷ 6 ∷ 5 ∷ []) 5 (answers 0 (7 ∷ 0 ∷ [])) [] (8 ∷ 8 ∷ 4 ∷ 6 ∷ 7 ∷ 2 ∷ 0 ∷ [])
+    ∷ sheet upper-bit-lost kind (8 ∷ 7 ∷ 6 ∷ 5 ∷ []) 5 (answers 1 (4 ∷ 1 ∷ 0 ∷ 0 ∷ 2 ∷ 0 ∷ 2 ∷ [])) (2 ∷ 16 ∷ []) (7 ∷ 8 ∷ 3 ∷ 1 ∷ [])
+    ∷ sheet six-inputs kind [] 0 (refuses 9) [] []
+    ∷ []
+
+-- both kinds; and what is left where c cancels, the product of two bits with every sign plus, or with two's complement's signs
+unfoldable pub sums : List Row
+sums =
+    added 3 ++ added 4
+    ++ sheet product-lost 3 [] 4 (answers 1 (0 ∷ 4 ∷ 1 ∷ 1 ∷ 0 ∷ 0 ∷ 1 ∷ [])) (12 ∷ 20 ∷ 14 ∷ 18 ∷ 14 ∷ 12 ∷ 15 ∷ 10 ∷ []) []
+    ∷ sheet product-lost 4 [] 4 (answers 1 (0 ∷ 4 ∷ 1 ∷ 1 ∷ 0 ∷ 0 ∷ 1 ∷ [])) (12 ∷ 20 ∷ 2 ∷ 18 ∷ 2 ∷ 12 ∷ 15 ∷ 10 ∷ []) []
     ∷ []
 
 -- the counts of a block of two inputs, two outputs and so many lookup cells
@@ -134,10 +166,10 @@ unfolding right
 cell-cases =
     cells-as 1 (6 ∷ 0 ∷ 136 ∷ 1 ∷ 2 ∷ 0 ∷ []) (sheet [] 0 (3 ∷ []) 2 (answers 0 (1 ∷ 0 ∷ [])) [] (0 ∷ []))
     && cells-as 1 (6 ∷ 0 ∷ 8 ∷ 2 ∷ 1 ∷ 0 ∷ []) (sheet [] 0 (3 ∷ []) 2 (answers 0 (1 ∷ 0 ∷ [])) [] (0 ∷ []))
-    && cells-as 1 (6 ∷ 0 ∷ 34 ∷ 1 ∷ 2 ∷ 0 ∷ []) (sheet [] 0 (3 ∷ []) 2 (answers 1 (1 ∷ 2 ∷ 1 ∷ 0 ∷ 1 ∷ 0 ∷ [])) (2 ∷ 6 ∷ 1 ∷ 2 ∷ []) (2 ∷ []))
-    && cells-as 2 (8 ∷ 0 ∷ 136 ∷ 1 ∷ 2 ∷ 0 ∷ 150 ∷ 1 ∷ 2 ∷ 3 ∷ []) (sheet [] 0 (4 ∷ 3 ∷ []) 2 (answers 1 (2 ∷ 3 ∷ 1 ∷ 0 ∷ 1 ∷ 0 ∷ [])) (2 ∷ 6 ∷ 1 ∷ 4 ∷ 1 ∷ 2 ∷ []) (6 ∷ 3 ∷ []))
-    && cells-as 1 (6 ∷ 0 ∷ 150 ∷ 1 ∷ 2 ∷ 1 ∷ []) (sheet [] 0 (3 ∷ []) 2 (answers 1 (1 ∷ 2 ∷ 0 ∷ 1 ∷ 1 ∷ 0 ∷ [])) (3 ∷ 6 ∷ 1 ∷ 4 ∷ []) (2 ∷ []))
-    && cells-as 1 (6 ∷ 0 ∷ 255 ∷ 2 ∷ 2 ∷ 2 ∷ []) (sheet [] 0 (3 ∷ []) 2 (answers 1 (1 ∷ 2 ∷ 0 ∷ 0 ∷ 1 ∷ 0 ∷ [])) (3 ∷ 6 ∷ 1 ∷ 0 ∷ []) (2 ∷ []))
+    && cells-as 1 (6 ∷ 0 ∷ 34 ∷ 1 ∷ 2 ∷ 0 ∷ []) (sheet [] 0 (3 ∷ []) 2 (answers 1 (1 ∷ 2 ∷ 1 ∷ 0 ∷ 0 ∷ 1 ∷ 0 ∷ [])) (2 ∷ 6 ∷ 1 ∷ 2 ∷ []) (2 ∷ []))
+    && cells-as 2 (8 ∷ 0 ∷ 136 ∷ 1 ∷ 2 ∷ 0 ∷ 150 ∷ 1 ∷ 2 ∷ 3 ∷ []) (sheet [] 0 (4 ∷ 3 ∷ []) 2 (answers 1 (2 ∷ 3 ∷ 1 ∷ 0 ∷ 0 ∷ 1 ∷ 0 ∷ [])) (2 ∷ 6 ∷ 1 ∷ 4 ∷ 1 ∷ 2 ∷ []) (6 ∷ 3 ∷ []))
+    && cells-as 1 (6 ∷ 0 ∷ 150 ∷ 1 ∷ 2 ∷ 1 ∷ []) (sheet [] 0 (3 ∷ []) 2 (answers 1 (1 ∷ 2 ∷ 0 ∷ 1 ∷ 0 ∷ 1 ∷ 0 ∷ [])) (3 ∷ 6 ∷ 1 ∷ 4 ∷ []) (2 ∷ []))
+    && cells-as 1 (6 ∷ 0 ∷ 255 ∷ 2 ∷ 2 ∷ 2 ∷ []) (sheet [] 0 (3 ∷ []) 2 (answers 1 (1 ∷ 2 ∷ 0 ∷ 0 ∷ 0 ∷ 1 ∷ 0 ∷ [])) (3 ∷ 6 ∷ 1 ∷ 0 ∷ []) (2 ∷ []))
     && cells-as 1 (6 ∷ 0 ∷ 256 ∷ 1 ∷ 2 ∷ 0 ∷ []) (sheet [] 0 (3 ∷ []) 2 (refuses 8) [] [])
     && cells-as 1 (6 ∷ 0 ∷ 136 ∷ 1 ∷ 2 ∷ 3 ∷ []) (sheet [] 0 (3 ∷ []) 2 (refuses 8) [] [])
     && cells-as 1 (6 ∷ 0 ∷ 136 ∷ 1 ∷ 2 ∷ []) (sheet [] 0 (3 ∷ []) 2 (refuses 3) [] [])
@@ -192,6 +224,19 @@ turns-right : every right turns ≡ true
 unfolding right bytes sheet and-block two-bit-gates two-bits ten-down digits decimal fields-text header-text input-text output-text gate-text text-of
     edge unfit twelve-bits twelve edges damaged winding turns
 turns-right = refl
+
+-- every case of multiply and add is right
+sums-right : every right sums ≡ true
+unfolding right bytes sheet one-bit-sum upper-bit-lost product-lost six-inputs added sums
+sums-right = refl
+
+-- the desk prints c behind b for the kinds that add it, reads the line of two letters, and takes no line that merely begins like it
+desk-sums :
+    ((desk-prints (bytes "m\n" ++ upper-bit-lost) ≡ bytes "D 4 1 0 0 2 0 2\n")
+    × (desk-prints (bytes "ms\n" ++ upper-bit-lost) ≡ bytes "D 4 1 0 0 2 0 2\n"))
+    × ((desk-prints (bytes "ms\n" ++ one-bit-sum) ≡ bytes "E 7 0\n") × (desk-prints (bytes "mt\n" ++ one-bit-sum) ≡ bytes "X 9\n"))
+unfolding bytes upper-bit-lost one-bit-sum desk-prints
+desk-sums = ((refl, refl), (refl, refl))
 
 -- each case of lookup cells is right, and the least scratch of both kinds of record
 cells-right : (cell-cases && scratch-edges) ≡ true

@@ -9,8 +9,8 @@ use lib.ListN.{length, getD, take, drop, replicate}
 use Rattle.rules.specs.Each.{every, listed}
 use Rattle.rules.specs.Limits.{terms-wrong, steps-wrong}
 use Rattle.rules.specs.Netlist.{counts-wrong, table-short, table-unsound}
-use Rattle.rules.specs.Values.{width, shown}
-use Rattle.rules.specs.Product.{Kind, kind-of, kind-unknown, outputs-of, product}
+use Rattle.rules.specs.Values.{shown}
+use Rattle.rules.specs.Product.{Kind, kind-of, kind-unknown, shares, operand-width, operand-a, operand-b, operand-c, first-word, second-word, outputs-of, wanted-word}
 use Rattle.rules.specs.Polynomial.{Term, Polynomial}
 use Rattle.rules.specs.Steps.{run}
 use Rattle.rules.specs.Says.{Says, answers, first, refuse-or, says}
@@ -28,9 +28,13 @@ set-width c = c .m / 64 + 1
 unfoldable pub term-width : Counts → ℕ
 term-width c = set-width c + 1
 
--- kind unknown, or O is not l (9)
+-- I is no multiple of 4 for m and ms, of 2 for the others, or O is not l
+unfoldable pub misfits : Counts → Kind → Bool
+misfits c kind = not (eqb (c .i % shares kind) 0) || not (eqb (c .o) (outputs-of kind (operand-width kind c)))
+
+-- kind unknown, or the block has not the inputs or the outputs of the kind (9)
 unfoldable pub kind-wrong : Counts → ℕ → Bool
-kind-wrong c kind = kind-unknown kind || not (eqb (c .o) (outputs-of (kind-of kind) (width c)))
+kind-wrong c kind = kind-unknown kind || misfits c (kind-of kind)
 
 -- I < v ≤ M
 unfoldable pub is-gate : Counts → ℕ → Bool
@@ -92,19 +96,19 @@ unfoldable pub soonest : ℕ → Polynomial → ℕ
 soonest s [] = s
 soonest s (t ∷ p) = soonest (cond (sooner (t .1) s) (t .1) s) p
 
--- the pair of operand words whose 1 bits are the variables of a set: set / 2 is a + 2^n b
-unfoldable pub pair-a : ℕ → ℕ → ℕ
-pair-a n s = s / 2 % 2 ^ n
+-- the word that the outputs show for operands of a kind
+unfoldable pub shown-for : Kind → Counts → List ℕ → ℕ → ℕ → ℕ → ℕ
+shown-for kind c table a b addend =
+    shown c table (first-word kind (operand-width kind c) a b) (second-word kind b addend)
 
-unfoldable pub pair-b : ℕ → ℕ → ℕ
-pair-b n s = s / 2 / 2 ^ n
-
--- D, with the wrong pair of set s: what evaluation of the gates shows, and the wanted word
+-- D, with the wrong operands of set s: what evaluation of the gates shows, and the wanted word
 unfoldable pub differs : Kind → Counts → List ℕ → ℕ → ℕ → ℕ → Says
 differs kind c table steps terms s =
-    let a = pair-a (width c) s in
-    let b = pair-b (width c) s in
-    answers 1 (steps ∷ terms ∷ a ∷ b ∷ shown c table a b ∷ product kind (width c) a b ∷ [])
+    let n = operand-width kind c in
+    let a = operand-a n s in
+    let b = operand-b n s in
+    let addend = operand-c n s in
+    answers 1 (steps ∷ terms ∷ a ∷ b ∷ addend ∷ shown-for kind c table a b addend ∷ wanted-word kind n a b addend ∷ [])
 
 -- E, D or U by the last polynomial: zero, of input variables only, or with a gate variable
 unfoldable pub ended : Kind → Counts → List ℕ → ℕ → Polynomial → Says

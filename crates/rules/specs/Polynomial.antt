@@ -58,6 +58,11 @@ unfoldable pub gather : ℕ → Polynomial → Polynomial
 gather m [] = []
 gather m (t ∷ p) = insert m (t .0) (t .1) (gather m p)
 
+-- minus a polynomial modulo m: each coefficient times m - 1; not yet gathered
+unfoldable pub minus : ℕ → Polynomial → Polynomial
+minus m [] = []
+minus m (t ∷ p) = ((m - 1) * t .0, t .1) ∷ minus m p
+
 -- the set s with variable v in it, each variable at most once: x·x is x
 unfoldable pub with-variable : ℕ → ℕ → ℕ
 with-variable s v = s + (1 - bit s v) * 2 ^ v

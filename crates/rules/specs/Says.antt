@@ -18,10 +18,10 @@ pub data Says : Type 0 where
   refuses : ℕ → Says
   answers : ℕ → List ℕ → Says
 
--- E is 0, D 1, R 2, U 3: with the steps (of R: the step), the terms held, and for D the pair a, b and the words got and wanted
+-- E is 0, D 1, R 2, U 3: with the steps (of R: the step), the terms held, and for D the operands a, b, c and the words got and wanted
 unfoldable pub says : Answer → Says
 says (Equal steps terms) = answers 0 (steps ∷ terms ∷ [])
-says (Differs steps terms a b got wanted) = answers 1 (steps ∷ terms ∷ a ∷ b ∷ got ∷ wanted ∷ [])
+says (Differs steps terms a b c got wanted) = answers 1 (steps ∷ terms ∷ a ∷ b ∷ c ∷ got ∷ wanted ∷ [])
 says (OutOfRoom step terms) = answers 2 (step ∷ terms ∷ [])
 says (Unfinished steps terms) = answers 3 (steps ∷ terms ∷ [])
 says (RefusedAnswer number) = refuses number

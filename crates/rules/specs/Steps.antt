@@ -1,15 +1,15 @@
 -- The start polynomial, a step, and the polynomials after every number of steps.
-use mathlib.Core.Bool.{Bool, false, not, xor, cond, _||_, _&&_}
+use mathlib.Core.Bool.{Bool, not, cond, _||_, _&&_}
 use mathlib.Core.List.{List, [], _∷_, _++_}
-use Prim.Native.Nat.{ℕ, zero, suc, _+_, _-_, _%_, _^_}
+use Prim.Native.Nat.{ℕ, zero, suc, _+_, _-_, _^_}
 use lib.Dec.{ltb, eqb}
 use lib.IntN.{ℤ}
 use lib.ListN.{length, getD}
 use Rattle.rules.specs.Each.{each, joined}
 use Rattle.rules.specs.Netlist.{gate, output, record-at, reads}
-use Rattle.rules.specs.Values.{width, bit}
-use Rattle.rules.specs.Product.{Kind, plain, signed, truncated, outputs-of}
-use Rattle.rules.specs.Polynomial.{Term, Polynomial, gather, times-literal, times-chosen}
+use Rattle.rules.specs.Values.{bit}
+use Rattle.rules.specs.Product.{Kind, operand-width, outputs-of, specification}
+use Rattle.rules.specs.Polynomial.{Term, Polynomial, gather, minus, times-literal, times-chosen}
 use Rattle.rules.specs.Cells.{coefficient, above, below, scaled}
 use Rattle.rules.specs.declared.counts.Counts.{Counts}
 use Rattle.rules.specs.declared.records.Record.{Record}
@@ -17,24 +17,13 @@ use Rattle.rules.specs.declared.records.Record.the-variants.{Gate, Cell}
 
 -- 2^l for the outputs of a block
 unfoldable pub modulus : Kind → Counts → ℕ
-modulus kind c = 2 ^ outputs-of kind (width c)
+modulus kind c = 2 ^ outputs-of kind (operand-width kind c)
 
--- the sign of a_i b_j in the product: below 0 when exactly one of i, j is n - 1 in two's complement
-unfoldable pub below-zero : Kind → ℕ → ℕ → ℕ → Bool
-below-zero plain n i j = false
-below-zero signed n i j = xor (eqb (suc i) n) (eqb (suc j) n)
-below-zero truncated n i j = false
-
--- minus 2^(i+j) a_i b_j, or plus where the product's sign is minus; a_i is variable 1 + i, b_j variable n + 1 + j
-unfoldable pub product-term : Kind → ℕ → ℕ → ℕ → ℕ → Term
-product-term kind m n i j =
-    (cond (below-zero kind n i j) (2 ^ (i + j) % m) (m - 2 ^ (i + j) % m), 2 ^ (1 + i) + 2 ^ (n + 1 + j))
-
--- the sum of 2^i times output i, minus the product specification; not yet gathered
+-- the sum of 2^i times output i, minus the specification polynomial; not yet gathered
 unfoldable pub start-terms : Kind → Counts → List ℕ → Polynomial
 start-terms kind c table =
     joined (c .o) (λ i. times-literal (modulus kind c) (output table i) ((2 ^ i, 0) ∷ []))
-    ++ joined (width c) (λ i. joined (width c) (λ j. product-term kind (modulus kind c) (width c) i j ∷ []))
+    ++ minus (modulus kind c) (specification kind (modulus kind c) (operand-width kind c))
 
 -- the start polynomial
 unfoldable pub start : Kind → Counts → List ℕ → Polynomial

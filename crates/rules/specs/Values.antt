@@ -1,4 +1,4 @@
--- The values of a netlist's variables for one operand pair, and the word that its outputs show.
+-- The values of a netlist's variables for two words that hold its inputs, and the word that its outputs show.
 use mathlib.Core.Path.{_≡_}
 use mathlib.Core.Bool.{Bool}
 use mathlib.Core.List.{List, [], _∷_, _++_}
@@ -12,7 +12,7 @@ use Rattle.rules.specs.declared.counts.Counts.{Counts}
 use Rattle.rules.specs.declared.records.Record.{Record}
 use Rattle.rules.specs.declared.records.Record.the-variants.{Gate, Cell}
 
--- n, the bits of an operand
+-- the bits of each of the two words that hold the inputs
 unfoldable pub width : Counts → ℕ
 width c = c .i / 2
 
@@ -29,7 +29,7 @@ turned (suc k) value = 1 - value
 unfoldable pub literal-value : List ℕ → ℕ → ℕ
 literal-value values x = turned (inverted x) (getD values (variable x) 0)
 
--- the variables that no gate makes: variable 0 is false, then the bits of a, then those of b
+-- the variables that no gate makes: variable 0 is false, then the bits of the first word, then those of the second
 unfoldable pub input-values : ℕ → ℕ → ℕ → List ℕ
 input-values n a b = (0 ∷ []) ++ listed n (bit a) ++ listed n (bit b)
 
@@ -70,6 +70,6 @@ evaluating c table a b =
     let word = answers 0 (shown c table a b ∷ []) in
     refuse-or (first (evaluate-checks c table)) word
 
--- the permitted outcome of the evaluator, from counts, table and two operand words; it is lent nothing that it may change
+-- the permitted outcome of the evaluator, from counts, table and the two words; it is lent nothing that it may change
 pub record Evaluated (c : Counts) (table : List ℕ) (a b : ℕ) (r : Word) : Type 0 where
   pub said : word-says r ≡ evaluating c table a b

@@ -7,7 +7,7 @@ pub enum Text {
     Refused(u32),
 }
 
-// Of evaluating one operand pair, and of asking for its wanted word.
+// Of evaluating one pair of words, and of asking for the wanted word of operands.
 pub enum Word {
     Is(u64),
     Refused(u32),
@@ -24,6 +24,7 @@ pub enum Answer {
         terms: usize,
         a: u64,
         b: u64,
+        c: u64,
         got: u64,
         wanted: u64,
     },
@@ -47,6 +48,6 @@ pub struct StepRecord {
 
 // Of the desk program: the bytes of its line, then zeros, and how many bytes the line has.
 pub struct Line {
-    pub bytes: [u8; 130],
+    pub bytes: [u8; 151],
     pub len: usize,
 }

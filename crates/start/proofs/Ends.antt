@@ -10,20 +10,34 @@ use lib.ListN.{length, take, drop, replicate, length-drop, length-replicate, get
 use lib.Seq.{take-all, length-take-le}
 use borrow.Author.Tests.{le-leb, lt-leb}
 use Rattle.rules.specs.Judging.{set-width, term-width, polynomial-words, padded}
-use Rattle.rules.specs.Polynomial.{Polynomial, coefficient-at}
-use Rattle.rules.specs.Product.{kind-of}
+use Rattle.rules.specs.Polynomial.{Polynomial, coefficient-at, minus}
+use Rattle.rules.specs.Product.{Kind, plain, signed, truncated, multiply-add, multiply-add-signed, kind-of, adds, operand-width, addend-width, outputs-of}
 use Rattle.rules.specs.Steps.{modulus, start}
-use Rattle.rules.specs.Values.{width}
 use Rattle.rules.specs.declared.counts.Counts.{Counts}
-use Rattle.rules.proofs.Sound.{right-counts}
+use Rattle.rules.proofs.Places.{fits}
 use Rattle.words.proofs.Encoded.{zeros-behind}
-use Rattle.start.specs.Start.{output-terms, weight, whole, Weighed, Going, Leads, Asked, counted, within, Started}
+use Rattle.start.specs.Start.{output-terms, addend-terms, single-terms, weight, whole, Weighed, Going, Leads, Asked, counted, within, Started}
 use Rattle.start.proofs.Whole.{start-whole}
 
 -- zeros are the weights of nothing
 pub weighed-zeros : (m n : ℕ) → Weighed m [] (replicate n 0)
 unfolding coefficient-at
 weighed-zeros m n = record { weighs = λ v l. getD-replicate n v 0 0 (rw length-replicate at l) ∙ sym (zero-mod m) }
+
+-- the outputs less c
+pub weighed-singles : (kind : Kind) (c : Counts) (table : List ℕ) (n bits : ℕ) (weights : List ℕ) → n ≡ operand-width kind c → bits ≡ addend-width kind n
+    → Weighed (2 ^ c .o) (output-terms (2 ^ c .o) table (c .o) ++ minus (2 ^ c .o) (addend-terms n bits)) weights → Weighed (2 ^ c .o) (single-terms kind c table) weights
+unfolding single-terms
+weighed-singles kind c table n bits weights e f w = rw (← e, ← f) w
+
+-- c has no more bits than there are outputs
+pub addend-within : (kind : Kind) (n : ℕ) → addend-width kind n ≤ outputs-of kind n
+unfolding addend-width adds outputs-of
+addend-within plain n = omega arith
+addend-within signed n = omega arith
+addend-within truncated n = omega arith
+addend-within multiply-add n = omega arith
+addend-within multiply-add-signed n = omega arith
 
 -- nothing is counted
 going-begun : (w limit : ℕ) (p : Polynomial) (store : List ℕ) → store ≡ replicate (length store) 0 → Going w limit p p store 0
@@ -56,19 +70,17 @@ module _ (w limit : ℕ) (p : Polynomial) (store : List ℕ) (r : ℕ) (g : Goin
       let more : r ≡ limit + 1 = omega (arith, g .few) in
       record { count = more ∙ rw test; words = e ∙ rw (test, zeros, sub-zero, replicate-append-replicate, room-and-rest, sub-zero) }
 
--- with the weights of the outputs, what is emitted on the way is the start polynomial
+-- with the weights of the outputs less c, what is emitted on the way is the start polynomial
 module _ (c : Counts) (table : List ℕ) (kind limit : ℕ) (store weights : List ℕ) (asked : Asked c table kind limit store)
-    (weighed : Weighed (2 ^ c .o) (output-terms (2 ^ c .o) table (c .o)) weights) (long : c .m < length weights) (store′ : List ℕ) (r : ℕ)
-    (run : Leads (set-width c) limit (whole (kind-of kind) (2 ^ c .o) (width c) (c .a) weights) [] store 0 store′ r)
+    (weighed : Weighed (2 ^ c .o) (single-terms (kind-of kind) c table) weights) (long : c .m < length weights) (store′ : List ℕ) (r : ℕ)
+    (run : Leads (set-width c) limit (whole (kind-of kind) (2 ^ c .o) (operand-width (kind-of kind) c) (c .m - (operand-width (kind-of kind) c + operand-width (kind-of kind) c)) weights) [] store 0 store′ r)
     (kept : length store′ ≡ length store) where
   -- the way from nothing counted to its end
   went : Going (set-width c) limit (start (kind-of kind) c table) [] store′ r
   unfolding modulus weight
   went =
-      let right = right-counts c (asked .counts) in
-      let m : 2 ^ c .o ≡ modulus (kind-of kind) c = ap (λ (k : ℕ). 2 ^ k) (asked .outputs) in
-      let all : whole (kind-of kind) (modulus (kind-of kind) c) (width c) (c .a) weights ≡ start (kind-of kind) c table =
-      start-whole (kind-of kind) c table weights (omega (arith, right .variables, right .operands)) (asked .sound) (λ v l. (rw m at weighed) .weighs v (omega arith)) in
+      let m : 2 ^ c .o ≡ modulus (kind-of kind) c = ap (λ (k : ℕ). 2 ^ k) (fits (kind-of kind) c (asked .counts) (asked .fitting) .outputs) in
+      let all = start-whole (kind-of kind) c table weights (asked .counts) (asked .sound) (sym m) (λ v l. weighed .weighs v (omega arith)) in
       run (start (kind-of kind) c table) (rw (m, all) (going-begun (set-width c) limit (start (kind-of kind) c table) store (asked .zeros)))
 
   -- it has at most as many terms as the limit

@@ -1,22 +1,24 @@
--- The terms of the outputs: each is a constant or has one variable, so that its weights say all of it.
+-- The terms of the outputs and of c: each is a constant or has one variable, so that its weights say all of it.
 use mathlib.Core.Path.{_≡_, refl, ap, sym, _∙_}
 use mathlib.Core.Bool.{Bool, true, false}
 use mathlib.Core.List.{List, [], _∷_, _++_}
-use Prim.Native.Nat.{ℕ, zero, suc, _+_, _-_, _^_, _<_}
+use Prim.Native.Nat.{ℕ, zero, suc, _+_, _-_, _*_, _^_, _<_}
 use native.Mathlib.Nat.{zero-add, one-mul, zero-div}
 use native.Mathlib.Omega.{arith}
 use lib.Dec.{ltb}
 use lib.Pow.{pow-pos, pow-lt}
 use borrow.Author.Tests.{ltb-true, ltb-false}
 use Rattle.rules.specs.Each.{sum, joined}
-use Rattle.rules.specs.Netlist.{variable, inverted, output, table-sound}
+use Rattle.rules.specs.Netlist.{counts-right, variable, inverted, output, table-sound}
 use Rattle.rules.specs.Values.{bit}
-use Rattle.rules.specs.Polynomial.{Polynomial, hit, coefficient-at, with-variable, times-variable, times-literal}
+use Rattle.rules.specs.Polynomial.{Polynomial, hit, coefficient-at, minus, with-variable, times-variable, times-literal}
+use Rattle.rules.specs.Product.{Kind, operand-width, addend-width, addend-term}
 use Rattle.rules.specs.declared.counts.Counts.{Counts}
 use Rattle.rules.proofs.Indices.{sum-same, sum-add}
-use Rattle.rules.proofs.Sound.{sound-table}
+use Rattle.rules.proofs.Sound.{right-counts, sound-table}
+use Rattle.rules.proofs.Places.{operands-within}
 use Rattle.rules.proofs.Terms.{hit-same, hit-other, hit-add, hit-zero}
-use Rattle.start.specs.Start.{single, output-terms}
+use Rattle.start.specs.Start.{single, output-terms, addend-terms, single-terms}
 use Rattle.start.proofs.Sums.{sum-none, sum-one}
 
 -- a variable's set
@@ -125,11 +127,27 @@ singly-joined bound zero list h = tt
 singly-joined bound (suc k) list h =
     singly-append bound (joined k list) (list k) (singly-joined bound k list (λ i l. h i (omega arith))) (h k (omega arith))
 
--- the coefficients of a sound table's outputs are those of its variables and of the constant
-pub outputs-spread : (m : ℕ) (c : Counts) (table : List ℕ) (u : ℕ) → table-sound c table ≡ true
-    → coefficient-at (output-terms m table (c .o)) u ≡ sum (c .m + 1) (λ v. hit u (single v) (coefficient-at (output-terms m table (c .o)) (single v)))
-unfolding output-terms
-outputs-spread m c table u h =
-    spread (c .m + 1) (output-terms m table (c .o)) u
+-- of minus a list
+singly-minus : (bound m : ℕ) (p : Polynomial) → Singly bound p → Singly bound (minus m p)
+unfolding minus
+singly-minus bound m [] h = tt
+singly-minus bound m (t ∷ p) h = (h .0, singly-minus bound m p (h .1))
+
+-- of the first bits of c
+singly-addends : (bound n count : ℕ) → n + n + count < bound → Singly bound (addend-terms n count)
+unfolding addend-terms addend-term
+singly-addends bound n count h =
+    singly-joined bound count _ (λ k l. ((2 * n + 1 + k, omega arith, sym (single-up (2 * n + 1 + k) (omega arith))), tt))
+
+-- the coefficients of the outputs of a sound table, less c, are those of its variables and of the constant
+pub singles-spread : (kind : Kind) (c : Counts) (table : List ℕ) (u : ℕ) → counts-right c ≡ true → table-sound c table ≡ true
+    → coefficient-at (single-terms kind c table) u ≡ sum (c .m + 1) (λ v. hit u (single v) (coefficient-at (single-terms kind c table) (single v)))
+unfolding single-terms output-terms
+singles-spread kind c table u right sound =
+    let n = operand-width kind c in
+    spread (c .m + 1) (single-terms kind c table) u
+    (singly-append (c .m + 1) (output-terms (2 ^ c .o) table (c .o)) _
     (singly-joined (c .m + 1) (c .o) _
-    (λ i l. singly-literal m (2 ^ i) (output table i) (c .m + 1) (omega (arith, sound-table c table h .output-variables i l))))
+    (λ i l. singly-literal (2 ^ c .o) (2 ^ i) (output table i) (c .m + 1) (omega (arith, sound-table c table sound .output-variables i l))))
+    (singly-minus (c .m + 1) (2 ^ c .o) (addend-terms n (addend-width kind n))
+    (singly-addends (c .m + 1) n (addend-width kind n) (omega (arith, operands-within kind c, right-counts c right .variables)))))

@@ -1,25 +1,25 @@
--- The weights that the loop over the outputs adds up, and the coefficient of a product.
+-- The weights that the loops over the outputs and over c add up, and the coefficient of a product.
 use mathlib.Core.Path.{_≡_, refl, ap, sym, _∙_}
-use mathlib.Core.Bool.{Bool, true, false, cond, not, xor, Bool·beq}
+use mathlib.Core.Bool.{Bool, true, false, cond, not, xor, _&&_, Bool·beq}
 use mathlib.Core.List.{List, [], _∷_, _++_, append-assoc, append-nil}
-use Prim.Native.Nat.{ℕ, zero, suc, _+_, _-_, _*_, _/_, _%_, _^_, _<_, _≤_}
+use Prim.Native.Nat.{ℕ, suc, _+_, _-_, _*_, _/_, _%_, _^_, _<_, _≤_}
 use native.Mathlib.Nat.{le-of-lt, add-zero, zero-add, sub-zero, mod-add-mod, mod-eq-of-lt, mod-mod, mod-self, mul-mod-left}
 use native.Mathlib.Numerals.{add-one}
 use native.Mathlib.Omega.{arith}
 use lib.Dec.{eqb}
 use lib.ListN.{length, getD, set, length-set}
-use lib.Pow.{pow-add, pow-lt}
+use lib.Pow.{pow-pos, pow-add, pow-lt}
 use lib.Seq.{getD-set-same, getD-set-other}
 use borrow.Author.Tests.{eqb-true, eqb-false}
 use Rattle.rules.specs.Each.{joined}
 use Rattle.rules.specs.Netlist.{variable, inverted, output}
-use Rattle.rules.specs.Polynomial.{Polynomial, coefficient-at, times-literal}
-use Rattle.rules.specs.Product.{Kind, kind-of}
-use Rattle.rules.specs.Steps.{below-zero, product-term}
+use Rattle.rules.specs.Polynomial.{Polynomial, coefficient-at, minus, times-literal}
+use Rattle.rules.specs.Product.{Kind, kind-of, complement, below-zero, product-term, addend-term}
+use Rattle.rules.proofs.Remainders.{same-add, opposite, same-cancel, modulo-rest, modulo-turned}
 use Rattle.rules.proofs.Terms.{hit-same, hit-other, coefficient-append}
 use Rattle.words.proofs.Numbers.{one-shifted}
-use Rattle.start.specs.Start.{single, output-terms, Weighed, pair-weight}
-use Rattle.start.proofs.Outputs.{single-other, literal-false, literal-true, literal-plain, literal-inverse}
+use Rattle.start.specs.Start.{single, output-terms, addend-terms, Weighed, pair-weight}
+use Rattle.start.proofs.Outputs.{single-up, single-other, literal-false, literal-true, literal-plain, literal-inverse}
 
 -- c more at the weight of v: one more term of v alone
 weighed-more : (m : ℕ) (p : Polynomial) (weights : List ℕ) (v c r : ℕ) → v < length weights → r ≡ (getD weights v 0 + c) % m
@@ -76,17 +76,47 @@ outputs-more m k table = rw (add-one k)
 pub shifted-le : (e l : ℕ) → e < l → l ≤ 64 → 1 * 2 ^ e % 2 ^ 64 ≤ 2 ^ l
 shifted-le e l h b = rw (one-shifted e (omega arith)) (le-of-lt (pow-lt h))
 
--- in the plain and in the truncated reading no product is below 0
-pub sign-plain : (kind n i j : ℕ) → (kind ≡ 1 → ⊥) → false ≡ below-zero (kind-of kind) n i j
-unfolding below-zero kind-of
-sign-plain zero n i j h = refl
-sign-plain (suc zero) n i j h = absurd (h refl)
-sign-plain (suc (suc kind)) n i j h = refl
+-- one more bit of c
+addends-more : (n k : ℕ) → addend-terms n (k + 1) ≡ addend-terms n k ++ (2 ^ k, 2 ^ (2 * n + 1 + k)) ∷ []
+unfolding addend-terms addend-term joined
+addends-more n k = rw (add-one k)
 
--- in two's complement the code's test is the sign
-pub sign-signed : (kind n i j : ℕ) → kind ≡ 1 → not (Bool·beq (eqb (i + 1) n) (eqb (j + 1) n)) ≡ below-zero (kind-of kind) n i j
-unfolding below-zero kind-of xor
-sign-signed kind n i j e = rw (e, add-one i, add-one j) (go (eqb (suc i) n) (eqb (suc j) n))
+-- minus lists one behind the other
+minus-append : (m : ℕ) (p q : Polynomial) → minus m (p ++ q) ≡ minus m p ++ minus m q
+unfolding minus
+minus-append m [] q = refl
+minus-append m (t ∷ p) q = ap (λ (list : Polynomial). ((m - 1) * t .0, t .1) ∷ list) (minus-append m p q)
+
+-- m - 1 times a number is, modulo m, m less it
+less-one : (m x c : ℕ) → 0 < m → c ≤ m → (x + (m - c)) % m ≡ (x + (m - 1) * c) % m
+less-one m x c positive h =
+    let whole : m - c + c ≡ m = omega arith in
+    same-add m x x (m - c) ((m - 1) * c) refl
+    (same-cancel m positive (m - c) ((m - 1) * c) c (rw (whole, mod-self) (sym (opposite m positive c))))
+
+-- the weights with one more bit of c taken away
+pub weighed-less : (l n k : ℕ) (weights : List ℕ) (p : Polynomial) (r : ℕ) → k < l → 2 * n + 1 + k < length weights
+    → r ≡ (getD weights (2 * n + 1 + k) 0 + (2 ^ l - 2 ^ k)) % 2 ^ l
+    → Weighed (2 ^ l) (p ++ minus (2 ^ l) (addend-terms n k)) weights
+    → Weighed (2 ^ l) (p ++ minus (2 ^ l) (addend-terms n (k + 1))) (set weights (2 * n + 1 + k) r)
+unfolding minus
+weighed-less l n k weights p r h long e w =
+    let m = 2 ^ l in
+    let v = 2 * n + 1 + k in
+    let less = less-one m (getD weights v 0) (2 ^ k) (pow-pos l) (le-of-lt (pow-lt h)) in
+    rw (
+      addends-more n k,
+      minus-append m (addend-terms n k) ((2 ^ k, 2 ^ v) ∷ []),
+      ← append-assoc p (minus m (addend-terms n k)) (((m - 1) * 2 ^ k, 2 ^ v) ∷ []),
+      ← single-up v (omega arith),
+    )
+    (weighed-more m (p ++ minus m (addend-terms n k)) weights v ((m - 1) * 2 ^ k) r long (e ∙ less) w)
+
+-- the code's test is the sign
+pub sign-test : (two : Bool) (kind n i j : ℕ) → two ≡ complement (kind-of kind)
+    → (two && not (Bool·beq (eqb (i + 1) n) (eqb (j + 1) n))) ≡ below-zero (kind-of kind) n i j
+unfolding below-zero xor
+sign-test two kind n i j e = rw (e, add-one i, add-one j, go (eqb (suc i) n) (eqb (suc j) n))
   where
     go : (a b : Bool) → not (Bool·beq a b) ≡ xor a b
     go true true = refl
@@ -96,10 +126,14 @@ sign-signed kind n i j e = rw (e, add-one i, add-one j) (go (eqb (suc i) n) (eqb
 
 -- the coefficient of a_i b_j modulo 2^l
 module _ (kind : Kind) (l n j i : ℕ) where
+  -- plus where the sign in the product is minus, and minus otherwise
+  weight-form : pair-weight kind (2 ^ l) n j i ≡ cond (below-zero kind n i j) (2 ^ (i + j) % 2 ^ l) (2 ^ l - 2 ^ (i + j) % 2 ^ l) % 2 ^ l
+  unfolding pair-weight product-term
+  weight-form = sym (modulo-turned (2 ^ l) (pow-pos l) (below-zero kind n i j) _ (2 ^ (i + j)) (modulo-rest (2 ^ l) (pow-pos l) _ _))
+
   -- 0 from 2^l on
   pub weight-none : l ≤ i + j → 0 ≡ pair-weight kind (2 ^ l) n j i
-  unfolding pair-weight product-term
-  weight-none h = go (below-zero kind n i j)
+  weight-none h = rw weight-form (go (below-zero kind n i j))
     where
       none : 2 ^ (i + j) % 2 ^ l ≡ 0
       none =
@@ -116,10 +150,8 @@ module _ (kind : Kind) (l n j i : ℕ) where
 
   -- plus where the sign is minus
   pub weight-plus : i + j < l → below-zero kind n i j ≡ true → 2 ^ (i + j) ≡ pair-weight kind (2 ^ l) n j i
-  unfolding pair-weight product-term
-  weight-plus h b = rw (b, mod-mod, low h)
+  weight-plus h b = rw (weight-form, b, mod-mod, low h)
 
   -- minus otherwise
   pub weight-minus : i + j < l → below-zero kind n i j ≡ false → (0 + (2 ^ l - 2 ^ (i + j))) % 2 ^ l ≡ pair-weight kind (2 ^ l) n j i
-  unfolding pair-weight product-term
-  weight-minus h b = rw (b, low h, zero-add)
+  weight-minus h b = rw (weight-form, b, low h, zero-add)

@@ -1,27 +1,29 @@
 -- What is written, in its order, is the start polynomial.
 use mathlib.Core.Path.{_≡_, refl, ap, sym, _∙_}
 use mathlib.Core.Bool.{true}
-use mathlib.Core.List.{List, [], _∷_}
+use mathlib.Core.List.{List, [], _∷_, _++_}
 use mathlib.Core.Logic.{⊎-elim}
-use Prim.Native.Nat.{ℕ, zero, suc, _+_, _%_, _^_, _<_, _≤_}
-use native.Mathlib.Nat.{add-zero, add-comm, add-assoc, le-refl, eq-or-lt-of-le, mod-lt, mod-mod, add-mod, pow-suc}
+use Prim.Native.Nat.{ℕ, zero, suc, _+_, _-_, _*_, _%_, _^_, _<_, _≤_}
+use native.Mathlib.Nat.{add-zero, add-comm, add-assoc, mul-add, mul-assoc, le-refl, eq-or-lt-of-le, mod-lt, mod-mod, add-mod, pow-suc}
 use native.Mathlib.Omega.{arith}
 use lib.ListN.{getD}
 use lib.Pow.{pow-pos}
 use Rattle.rules.specs.Each.{sum, joined}
-use Rattle.rules.specs.Netlist.{table-sound}
-use Rattle.rules.specs.Values.{width}
-use Rattle.rules.specs.Product.{Kind}
-use Rattle.rules.specs.Polynomial.{Polynomial, hit, coefficient-at, Below, Coefficients, keep}
-use Rattle.rules.specs.Steps.{modulus, product-term, start-terms, start}
+use Rattle.rules.specs.Netlist.{counts-right, output, table-sound}
+use Rattle.rules.specs.Product.{Kind, operand-width, addend-width, product-term, addend-term, specification}
+use Rattle.rules.specs.Polynomial.{Polynomial, hit, coefficient-at, Below, Coefficients, keep, minus, times-literal}
+use Rattle.rules.specs.Steps.{modulus, start-terms, start}
 use Rattle.rules.specs.declared.counts.Counts.{Counts}
 use Rattle.rules.proofs.Indices.{sum-same, sum-add}
 use Rattle.rules.proofs.Terms.{hit-mod, weaken, coefficient-append, coefficient-joined}
-use Rattle.rules.proofs.Remainders.{sum-mod}
+use Rattle.rules.proofs.Sound.{right-counts}
+use Rattle.rules.proofs.Places.{operands-within}
+use Rattle.rules.proofs.Remainders.{sum-mod, sum-factor}
+use Rattle.rules.proofs.Weighed.{hit-times, weighed-coefficient, weighed-minus}
 use Rattle.rules.proofs.Gathered.{keep-below, keep-coefficients, keep-coefficient, unique, under-of, gather-same}
-use Rattle.start.specs.Start.{single, down, output-terms, weight, singles, pair-weight, pairs, rows, whole}
+use Rattle.start.specs.Start.{single, down, output-terms, addend-terms, single-terms, weight, singles, pair-weight, pairs, rows, whole}
 use Rattle.start.proofs.Sums.{sum-swap, sum-split, coefficient-down}
-use Rattle.start.proofs.Outputs.{single-up, single-lt, outputs-spread}
+use Rattle.start.proofs.Outputs.{single-up, single-lt, singles-spread}
 
 -- what holds of the rest, and goes from each index to the next, holds of all that is put in front
 down-keeps : (P : ℕ → Polynomial → Type 0) (k : ℕ) (put : ℕ → Polynomial → Polynomial) (rest : Polynomial)
@@ -139,57 +141,110 @@ module _ (kind : Kind) (m n : ℕ) (weights : List ℕ) where
         keep-coefficient (getD weights 0 0) 0 [] u,
       )
 
+-- the coefficient of minus a list
+coefficient-minus : (m : ℕ) (p : Polynomial) (u : ℕ) → coefficient-at (minus m p) u ≡ (m - 1) * coefficient-at p u
+coefficient-minus m p u =
+    rw (weighed-coefficient u (minus m p), weighed-coefficient u p) (weighed-minus (λ s. hit u s 1) m p)
+
 -- the coefficients of the products, reduced or not
 products : (kind : Kind) (m n u : ℕ)
     → sum n (λ j. sum n (λ i. hit u (single (n + 1 + j) + single (1 + i)) (pair-weight kind m n j i))) % m
-    ≡ coefficient-at (joined n (λ i. joined n (λ j. product-term kind m n i j ∷ []))) u % m
+    ≡ ((m - 1) * coefficient-at (joined n (λ i. joined n (λ j. product-term kind m n i j ∷ []))) u) % m
 unfolding pair-weight coefficient-at product-term
 products kind m n u =
     let reduced : ℕ → ℕ → ℕ = λ j i. hit u (single (n + 1 + j) + single (1 + i)) (pair-weight kind m n j i) in
     let full : ℕ → ℕ → ℕ = λ j i. coefficient-at (product-term kind m n i j ∷ []) u in
-    let inner : (j : ℕ) → sum n (reduced j) % m ≡ sum n (full j) % m =
-    λ j. sum-mod m n (reduced j) (full j) (λ i l. ap (λ (x : ℕ). x % m) (one i j) ∙ mod-mod (full j i) m) in
-    sum-mod m n (λ j. sum n (reduced j)) (λ j. sum n (full j)) (λ j l. inner j)
+    let inner : (j : ℕ) → sum n (reduced j) % m ≡ ((m - 1) * sum n (full j)) % m =
+    λ j. sum-mod m n (reduced j) (λ i. (m - 1) * full j i) (λ i l. ap (λ (x : ℕ). x % m) (one i j) ∙ mod-mod _ m)
+    ∙ ap (λ (x : ℕ). x % m) (sum-factor n (m - 1) (full j)) in
+    sum-mod m n (λ j. sum n (reduced j)) (λ j. (m - 1) * sum n (full j)) (λ j l. inner j)
     ∙ ap (λ (x : ℕ). x % m)
+    (sum-factor n (m - 1) (λ j. sum n (full j))
+    ∙ ap (λ (x : ℕ). (m - 1) * x)
     (sym (sum-swap n n (λ i j. full j i))
     ∙ sum-same n _ _ (λ i l. sym (coefficient-joined n (λ j. product-term kind m n i j ∷ []) u))
-    ∙ sym (coefficient-joined n (λ i. joined n (λ j. product-term kind m n i j ∷ [])) u))
+    ∙ sym (coefficient-joined n (λ i. joined n (λ j. product-term kind m n i j ∷ [])) u)))
   where
-    one : (i j : ℕ) → hit u (single (n + 1 + j) + single (1 + i)) (product-term kind m n i j .0 % m) ≡ coefficient-at (product-term kind m n i j ∷ []) u % m
-    one i j = rw (single-up (n + 1 + j) (omega arith), single-up (1 + i) (omega arith), add-comm (2 ^ (n + 1 + j)), hit-mod, add-zero)
+    one : (i j : ℕ) → hit u (single (n + 1 + j) + single (1 + i)) (((m - 1) * product-term kind m n i j .0) % m)
+        ≡ ((m - 1) * coefficient-at (product-term kind m n i j ∷ []) u) % m
+    one i j =
+        rw (
+          single-up (n + 1 + j) (omega arith),
+          single-up (1 + i) (omega arith),
+          add-comm (2 ^ (n + 1 + j)),
+          hit-mod,
+          add-zero,
+          hit-times u (2 ^ (1 + i) + 2 ^ (n + 1 + j)) ((m - 1) * product-term kind m n i j .0),
+          hit-times u (2 ^ (1 + i) + 2 ^ (n + 1 + j)) (product-term kind m n i j .0),
+          mul-assoc,
+        )
 
--- with the weights of the outputs, its coefficients are those of the terms that are to be gathered
-same-coefficients : (kind : Kind) (c : Counts) (table weights : List ℕ) → width c + width c + c .a ≡ c .m → table-sound c table ≡ true
-    → ((v : ℕ) → v ≤ c .m → getD weights v 0 ≡ weight (modulus kind c) table (c .o) v)
-    → (u : ℕ) → coefficient-at (whole kind (modulus kind c) (width c) (c .a) weights) u % modulus kind c ≡ coefficient-at (start-terms kind c table) u % modulus kind c
-unfolding start-terms weight output-terms
-same-coefficients kind c table weights e h w u =
-    let m = modulus kind c in
-    let n = width c in
-    let outputs = output-terms m table (c .o) in
-    let each-weight : (v : ℕ) → v < c .m + 1 → hit u (single v) (getD weights v 0) ≡ hit u (single v) (coefficient-at outputs (single v)) % m =
-    λ v l. rw (w v (omega arith), hit-mod) in
-    let bound : n + n + 1 + c .a ≡ c .m + 1 = omega arith in
-    let variables : sum (n + n + 1 + c .a) (λ v. hit u (single v) (getD weights v 0)) % m ≡ coefficient-at outputs u % m =
-    rw bound
-    (sum-mod m (c .m + 1) (λ v. hit u (single v) (getD weights v 0)) (λ v. hit u (single v) (coefficient-at outputs (single v)))
-    (λ v l. ap (λ (x : ℕ). x % m) (each-weight v l) ∙ mod-mod (hit u (single v) (coefficient-at outputs (single v))) m)
-    ∙ ap (λ (x : ℕ). x % m) (sym (outputs-spread m c table u h))) in
-    rw (coefficient-whole kind m n weights (c .a) u, coefficient-append outputs _ u)
-    (add-mod _ _ m ∙ rw (variables, products kind m n u) (sym (add-mod _ _ m)))
+-- with the weights of the outputs less c, its coefficients are those of the terms that are to be gathered
+module _ (kind : Kind) (c : Counts) (table weights : List ℕ) (right : counts-right c ≡ true) (sound : table-sound c table ≡ true)
+    (same : modulus kind c ≡ 2 ^ c .o) (w : (v : ℕ) → v ≤ c .m → getD weights v 0 ≡ weight kind c table v) where
+  -- n, and the variables above b
+  abbrev n : ℕ
+  n = operand-width kind c
 
--- with the weights of the outputs, what is written is the start polynomial
-pub start-whole : (kind : Kind) (c : Counts) (table weights : List ℕ) → width c + width c + c .a ≡ c .m → table-sound c table ≡ true
-    → ((v : ℕ) → v ≤ c .m → getD weights v 0 ≡ weight (modulus kind c) table (c .o) v)
-    → whole kind (modulus kind c) (width c) (c .a) weights ≡ start kind c table
-unfolding start modulus weight
-start-whole kind c table weights e h w =
-    let m = modulus kind c in
-    let n = width c in
-    let bound = single (n + n + 1 + c .a) in
-    let all = whole kind m n (c .a) weights in
-    let positive : 0 < m = pow-pos _ in
-    let normal : Normal m bound all =
-    normal-whole kind m n weights positive (c .a) (λ v l. rw (w v (omega arith)) (mod-lt _ positive)) in
-    unique m bound all all positive (normal .0) (normal .1) (under-of bound bound all (omega arith) (normal .0)) (λ u. refl)
-    ∙ gather-same m all (start-terms kind c table) positive (same-coefficients kind c table weights e h w)
+  abbrev above : ℕ
+  above = c .m - (n + n)
+
+  -- the bound of the variables
+  bound : n + n + 1 + above ≡ c .m + 1
+  bound = omega (arith, operands-within kind c, right-counts c right .variables)
+
+  -- the coefficients of the variables and of the constant
+  variables : (u : ℕ)
+      → sum (n + n + 1 + above) (λ v. hit u (single v) (getD weights v 0)) % modulus kind c ≡ coefficient-at (single-terms kind c table) u % modulus kind c
+  unfolding weight
+  variables u =
+      let m = modulus kind c in
+      let singly = single-terms kind c table in
+      let each-weight : (v : ℕ) → v < c .m + 1 → hit u (single v) (getD weights v 0) ≡ hit u (single v) (coefficient-at singly (single v)) % m =
+      λ v l. rw (w v (omega arith), same, hit-mod) in
+      rw bound
+      (sum-mod m (c .m + 1) (λ v. hit u (single v) (getD weights v 0)) (λ v. hit u (single v) (coefficient-at singly (single v)))
+      (λ v l. ap (λ (x : ℕ). x % m) (each-weight v l) ∙ mod-mod (hit u (single v) (coefficient-at singly (single v))) m)
+      ∙ ap (λ (x : ℕ). x % m) (sym (singles-spread kind c table u right sound)))
+
+  -- those of the terms that are to be gathered: of the outputs, and minus those of the products and of c
+  coefficient-start : (u : ℕ)
+      → coefficient-at (start-terms kind c table) u
+      ≡ coefficient-at (single-terms kind c table) u
+      + (modulus kind c - 1) * coefficient-at (joined n (λ i. joined n (λ j. product-term kind (modulus kind c) n i j ∷ []))) u
+  unfolding start-terms specification single-terms output-terms addend-terms
+  coefficient-start u =
+      let m = modulus kind c in
+      let products = joined n (λ i. joined n (λ j. product-term kind m n i j ∷ [])) in
+      let addends = joined (addend-width kind n) (λ k. addend-term n k ∷ []) in
+      let outputs = joined (c .o) (λ i. times-literal m (output table i) ((2 ^ i, 0) ∷ [])) in
+      rw (
+        ← same,
+        coefficient-append outputs (minus m (products ++ addends)) u,
+        coefficient-append outputs (minus m addends) u,
+        coefficient-minus m (products ++ addends) u,
+        coefficient-minus m addends u,
+        coefficient-append products addends u,
+        mul-add,
+      )
+      (omega arith)
+
+  same-coefficients : (u : ℕ) → coefficient-at (whole kind (modulus kind c) n above weights) u % modulus kind c ≡ coefficient-at (start-terms kind c table) u % modulus kind c
+  same-coefficients u =
+      let m = modulus kind c in
+      rw (coefficient-whole kind m n weights above u, coefficient-start u)
+      (add-mod _ _ m ∙ rw (variables u, products kind m n u) (sym (add-mod _ _ m)))
+
+  -- what is written is the start polynomial
+  pub start-whole : whole kind (modulus kind c) n above weights ≡ start kind c table
+  unfolding start weight
+  start-whole =
+      let m = modulus kind c in
+      let top = single (n + n + 1 + above) in
+      let all = whole kind m n above weights in
+      let positive : 0 < m = rw same (pow-pos (c .o)) in
+      let below : (v : ℕ) → v < n + n + 1 + above → getD weights v 0 < m =
+      λ v l. rw (w v (omega (arith, bound)), same) (mod-lt _ (pow-pos (c .o))) in
+      let normal : Normal m top all = normal-whole kind m n weights positive above below in
+      unique m top all all positive (normal .0) (normal .1) (under-of top top all (omega arith) (normal .0)) (λ u. refl)
+      ∙ gather-same m all (start-terms kind c table) positive same-coefficients

@@ -1,17 +1,15 @@
 -- The start polynomial in the order in which it is written: sets fall, and a term with coefficient 0 is left out.
 use mathlib.Core.Path.{_≡_}
-use mathlib.Core.Bool.{true, cond}
+use mathlib.Core.Bool.{true, false, cond}
 use mathlib.Core.List.{List, [], _∷_, _++_}
-use Prim.Native.Nat.{ℕ, zero, suc, _+_, _*_, _/_, _%_, _^_, _<_, _≤_, min}
+use Prim.Native.Nat.{ℕ, zero, suc, _+_, _-_, _*_, _/_, _%_, _^_, _<_, _≤_, min}
 use lib.Dec.{leb}
 use lib.ListN.{length, getD, take, drop, replicate}
 use Rattle.rules.specs.Each.{joined, listed}
-use Rattle.rules.specs.Judging.{term-width, polynomial-words, padded}
+use Rattle.rules.specs.Judging.{misfits, term-width, polynomial-words, padded}
 use Rattle.rules.specs.Netlist.{counts-right, needed, output, table-sound}
-use Rattle.rules.specs.Polynomial.{Polynomial, coefficient-at, keep, times-literal}
-use Rattle.rules.specs.Product.{Kind, kind-of, outputs-of}
-use Rattle.rules.specs.Steps.{product-term}
-use Rattle.rules.specs.Values.{width}
+use Rattle.rules.specs.Polynomial.{Polynomial, coefficient-at, keep, minus, times-literal}
+use Rattle.rules.specs.Product.{Kind, kind-of, operand-width, addend-width, product-term, addend-term}
 use Rattle.rules.specs.declared.counts.Counts.{Counts}
 
 -- the set of one variable; variable 0 stands for the constant, whose set is empty
@@ -28,17 +26,27 @@ down (suc k) put rest = put k (down k put rest)
 unfoldable pub output-terms : ℕ → List ℕ → ℕ → Polynomial
 output-terms m table count = joined count (λ i. times-literal m (output table i) ((2 ^ i, 0) ∷ []))
 
--- the coefficient of variable v in the first outputs
-unfoldable pub weight : ℕ → List ℕ → ℕ → ℕ → ℕ
-weight m table count v = coefficient-at (output-terms m table count) (single v) % m
+-- the terms of the first bits of c
+unfoldable pub addend-terms : ℕ → ℕ → Polynomial
+addend-terms n count = joined count (λ k. addend-term n k ∷ [])
+
+-- the terms of one variable or none: the outputs less c
+unfoldable pub single-terms : Kind → Counts → List ℕ → Polynomial
+single-terms kind c table =
+    let n = operand-width kind c in
+    output-terms (2 ^ c .o) table (c .o) ++ minus (2 ^ c .o) (addend-terms n (addend-width kind n))
+
+-- the coefficient of variable v in them
+unfoldable pub weight : Kind → Counts → List ℕ → ℕ → ℕ
+weight kind c table v = coefficient-at (single-terms kind c table) (single v) % 2 ^ c .o
 
 -- the variables from low + count down to low + 1, each with its weight
 unfoldable pub singles : List ℕ → ℕ → ℕ → Polynomial → Polynomial
 singles weights low count = down count (λ k. keep (getD weights (low + 1 + k) 0) (single (low + 1 + k)))
 
--- the coefficient of a_i b_j
+-- the coefficient of a_i b_j, minus that of the specification
 unfoldable pub pair-weight : Kind → ℕ → ℕ → ℕ → ℕ → ℕ
-pair-weight kind m n j i = product-term kind m n i j .0 % m
+pair-weight kind m n j i = (m - 1) * product-term kind m n i j .0 % m
 
 -- the products of b_j with a_i for the i below the bound
 unfoldable pub pairs : Kind → ℕ → ℕ → ℕ → ℕ → Polynomial → Polynomial
@@ -49,10 +57,10 @@ unfoldable pub rows : Kind → ℕ → ℕ → List ℕ → ℕ → Polynomial �
 rows kind m n weights count =
     down count (λ j rest. pairs kind m n j n (keep (getD weights (n + 1 + j) 0) (single (n + 1 + j)) rest))
 
--- the gates, the products and the second operand, the first operand, the constant
+-- the variables above b, the products and the second operand, the first operand, the constant
 unfoldable pub whole : Kind → ℕ → ℕ → ℕ → List ℕ → Polynomial
-whole kind m n gates weights =
-    singles weights (n + n) gates (rows kind m n weights n (singles weights 0 n (keep (getD weights 0 0) 0 [])))
+whole kind m n above weights =
+    singles weights (n + n) above (rows kind m n weights n (singles weights 0 n (keep (getD weights 0 0) 0 [])))
 
 -- the weights of the variables and of the constant are those of p
 pub record Weighed (m : ℕ) (p : Polynomial) (weights : List ℕ) : Type 0 where
@@ -90,12 +98,13 @@ pub record Going (w limit : ℕ) (p rest : Polynomial) (store : List ℕ) (out :
 abbrev pub Leads : ℕ → ℕ → Polynomial → Polynomial → List ℕ → ℕ → List ℕ → ℕ → Type 0
 Leads w limit then now store out store′ out′ = (p : Polynomial) → Going w limit p then store out → Going w limit p now store′ out′
 
--- what is known when the start polynomial is asked for: sound counts and table, O is l, room for the limit, and a store of zeros
+-- what is known when the start polynomial is asked for: sound counts and table, a block that fits its kind, room for the limit, and a
+-- store of zeros
 pub record Asked (c : Counts) (table : List ℕ) (kind limit : ℕ) (store : List ℕ) : Type 0 where
   pub counts : counts-right c ≡ true
   pub long : needed c ≤ length table
   pub sound : table-sound c table ≡ true
-  pub outputs : c .o ≡ outputs-of (kind-of kind) (width c)
+  pub fitting : misfits c (kind-of kind) ≡ false
   pub room : limit * term-width c ≤ length store
   pub zeros : store ≡ replicate (length store) 0
 

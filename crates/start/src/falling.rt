@@ -80,22 +80,22 @@ fn emit_rows(
     emitted
 }
 
-// Emits everything: the gates, the products and b, a, the constant.
+// Emits everything: c and the gates, the products and b, a, the constant.
 pub fn emit_all(
     kind: u32,
     l: u32,
     n: usize,
-    gates: usize,
+    above: usize,
     weights: &[u64],
     w: usize,
     limit: usize,
     store: &mut [u64],
 ) -> usize
-    requires { ⌜ (l ≤ 64) × (n ≤ 32) × (n + n + gates < length (now weights)) × (n + n + gates < 64 * w) × (limit * (w + 1) ≤ length (now store)) ⌝ }
-    ensures { λ r. ⌜ Leads w limit (whole (kind-of kind) (2 ^ l) n gates (now (weights .entry))) [] (now (store .entry)) 0 (now (store .exit)) r ⌝ }
+    requires { ⌜ (l ≤ 64) × (n ≤ 32) × (n + n + above < length (now weights)) × (n + n + above < 64 * w) × (limit * (w + 1) ≤ length (now store)) ⌝ }
+    ensures { λ r. ⌜ Leads w limit (whole (kind-of kind) (2 ^ l) n above (now (weights .entry))) [] (now (store .entry)) 0 (now (store .exit)) r ⌝ }
 {
-    let above = emit_singles(weights, n + n, gates, w, limit, store, 0);
-    let second = emit_rows(kind, l, n, weights, w, limit, store, above);
+    let third = emit_singles(weights, n + n, above, w, limit, store, 0);
+    let second = emit_rows(kind, l, n, weights, w, limit, store, third);
     let first = emit_singles(weights, 0, n, w, limit, store, second);
     emit(store, w, limit, first, weights[0], 0, 0)
 }

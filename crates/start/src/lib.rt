@@ -5,6 +5,9 @@ mod weights; // weights.rt: what the terms weigh
 
 use crate::falling::emit_all;
 use crate::weights::weigh;
+use crate::weights::weigh_addend;
+use product::addend_bits;
+use product::operand_bits;
 use rules::counts::Counts;
 use words::stretches::clear;
 ghost use lib.ListN.{length};
@@ -19,12 +22,15 @@ pub fn start(c: Counts, table: &[u32], kind: u32, limit: usize, store: &mut [u64
     requires { ⌜ Asked c (now table) kind limit (now store) ⌝ }
     ensures { λ r. ⌜ Started (start-of (kind-of kind) c (now (table .entry))) (set-width c) limit (length (now (store .entry))) r (now (store .exit)) ⌝ }
 {
-    let n = (c.i / 2) as usize;
+    let bits = operand_bits(c, kind);
+    let n = bits as usize;
     let w = (c.m / 64 + 1) as usize;
     // One weight for each variable, from 1 to the most that there may be, and the constant's at 0.
     let mut weights = [0u64; 1024];
     weigh(table, c.o, &mut weights);
-    let count = emit_all(kind, c.o, n, c.a as usize, &weights, w, limit, store);
+    weigh_addend(n, addend_bits(kind, bits), c.o, &mut weights);
+    let above = c.m as usize - (n + n);
+    let count = emit_all(kind, c.o, n, above, &weights, w, limit, store);
     if count > limit {
         clear(store, 0, limit * (w + 1));
     }

@@ -106,17 +106,22 @@ static void add_times(struct polynomial *p, const uint64_t *set, uint64_t coeffi
     add_times(p, product, is_inverse ? -coefficient : coefficient, literals + 1, count - 1);
 }
 
-/* The outputs minus the product; kind 1 is the signed reading. */
-static void start(struct polynomial *p, uint32_t n, uint32_t o, const uint32_t *outputs, uint32_t kind)
+/* The outputs minus the product, and minus c in the kinds from 3 on; kinds 1 and 4 are signed. */
+static void start(struct polynomial *p, uint32_t i, uint32_t o, const uint32_t *outputs, uint32_t kind)
 {
     static const uint64_t none[SET_WORDS_MOST];
+    uint32_t n = kind < 3 ? i / 2 : i / 4;
     take_slots(p);
-    for (uint32_t i = 0; i < o; i++)
-        add_times(p, none, BIT(i), outputs + i, 1);
+    for (uint32_t k = 0; k < o; k++)
+        add_times(p, none, BIT(k), outputs + k, 1);
     for (uint32_t at = 0; at < n * n; at++) {
-        uint32_t i = at / n, j = at % n, both[2] = {2 * (1 + i), 2 * (1 + n + j)};
-        int is_negative = kind == 1 && (i == n - 1) != (j == n - 1);
-        add_times(p, none, is_negative ? BIT(i + j) : -BIT(i + j), both, 2);
+        uint32_t x = at / n, y = at % n, both[2] = {2 * (1 + x), 2 * (1 + n + y)};
+        int is_negative = (kind == 1 || kind == 4) && (x == n - 1) != (y == n - 1);
+        add_times(p, none, is_negative ? BIT(x + y) : -BIT(x + y), both, 2);
+    }
+    for (uint32_t v = 2 * n + 1; v <= i; v++) {
+        uint32_t literal = 2 * v;
+        add_times(p, none, -BIT(v - 2 * n - 1), &literal, 1);
     }
 }
 
@@ -235,7 +240,7 @@ char hash_judge(uint32_t m, uint32_t i, uint32_t o, const uint32_t *table, uint3
 {
     struct polynomial p = {terms, slots, m / 64 + 2, 0, 0, 0, BIT(o - 1) * 2 - 1};
     size_t record_words = cells ? CELL_WORDS : GATE_WORDS;
-    start(&p, i / 2, o, table, kind);
+    start(&p, i, o, table, kind);
     shown[0] = shown[1] = 0;
     if (p.held > limit)
         return 'R';

@@ -2,7 +2,8 @@
  * Trying all operand pairs of a netlist, 64 to a word: the other way to
  * decide, which the proved judge is timed against. Nothing of it is proved.
  *
- * The pair with p = a + 2^n b is bit p mod 64 of word p / 64.
+ * The pair with p = a + 2^n b is bit p mod 64 of word p / 64. Where c is
+ * added, p is a + 2^n b + 2^(2n) c.
  */
 #include <stddef.h>
 #include <stdint.h>
@@ -12,6 +13,8 @@
 #define OUTPUTS_MOST 64
 #define PLAIN 0u
 #define SIGNED 1u
+#define ADDING 3u
+#define SIGNED_ADDING 4u
 
 /* Bit k of the numbers from 0 to 63. */
 static const uint64_t low_bit[6] = {
@@ -41,27 +44,38 @@ static void simulate(uint32_t i, uint32_t a, const uint32_t *gates, const uint64
         set_variable(values, i + 1 + k, values[gates[2 * k]] & values[gates[2 * k + 1]]);
 }
 
-/* The l bits of the wanted word: a row for each bit of y, added with ripple carry, a signed top row taken away. */
-static void want(uint32_t kind, uint32_t n, uint32_t l, const uint64_t *x, const uint64_t *y, uint64_t *wanted)
+/*
+ * Adds a row for each bit of y to the l bits of the wanted word with ripple
+ * carry; a signed top row is taken away.
+ */
+static void add_product(uint32_t kind, uint32_t n, uint32_t l, const uint64_t *x, const uint64_t *y, uint64_t *wanted)
 {
-    for (uint32_t place = 0; place < l; place++)
-        wanted[place] = 0;
+    int is_signed = kind == SIGNED || kind == SIGNED_ADDING;
     for (uint32_t j = 0; j < n; j++) {
         /* Where no pair of the word has the bit, its row is 0. From n = 6 on that is so in half of the words. */
         if (!y[j])
             continue;
-        uint64_t flip = kind == SIGNED && j == n - 1 ? ~UINT64_C(0) : 0, carry = flip;
+        uint64_t flip = is_signed && j == n - 1 ? ~UINT64_C(0) : 0, carry = flip;
         uint32_t top = kind == PLAIN ? j + n : l;
         for (uint32_t place = j; place < top; place++) {
-            /* A signed operand goes on with its top bit. */
-            uint64_t bit = (x[place - j < n ? place - j : n - 1] & y[j]) ^ flip, sum = wanted[place];
+            /* A signed operand goes on with its top bit, a plain one with 0. */
+            uint64_t above = kind == ADDING ? 0 : x[n - 1];
+            uint64_t bit = ((place - j < n ? x[place - j] : above) & y[j]) ^ flip, sum = wanted[place];
             wanted[place] = sum ^ bit ^ carry;
             carry = (sum & bit) | (carry & (sum ^ bit));
         }
-        /* Rows are added lowest first, so nothing stands above the row yet. */
+        /* Plain rows are added lowest first, so nothing stands above the row yet. */
         if (top < l)
             wanted[top] = carry;
     }
+}
+
+/* The l bits of the wanted word: c, or nothing, and the product. */
+static void want(uint32_t kind, uint32_t n, uint32_t l, const uint64_t *inputs, uint64_t *wanted)
+{
+    for (uint32_t place = 0; place < l; place++)
+        wanted[place] = kind < ADDING ? 0 : inputs[2 * n + place];
+    add_product(kind, n, l, inputs, inputs + n, wanted);
 }
 
 /* Whether a pair in the words from first on and before past shows another word than is wanted. */
@@ -69,12 +83,12 @@ int some_pair_is_wrong(uint32_t i, uint32_t o, uint32_t a, const uint32_t *table
                        uint64_t past)
 {
     uint64_t inputs[INPUTS_MOST], values[LITERALS_MOST], wanted[OUTPUTS_MOST];
-    uint32_t n = i / 2;
+    uint32_t n = kind < ADDING ? i / 2 : i / 4;
     for (uint64_t word = first; word < past; word++) {
         for (uint32_t k = 0; k < i; k++)
             inputs[k] = pair_bit(word, k);
         simulate(i, a, table + o, inputs, values);
-        want(kind, n, o, inputs, inputs + n, wanted);
+        want(kind, n, o, inputs, wanted);
         uint64_t wrong = 0;
         for (uint32_t place = 0; place < o; place++)
             wrong |= values[table[place]] ^ wanted[place];

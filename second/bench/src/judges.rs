@@ -116,7 +116,7 @@ extern "C" {
 }
 
 pub fn by_library(question: &Question, lent: &mut Lent) -> Verdict {
-    let mut answer = [0; 6];
+    let mut answer = [0; 7];
     let asked = compare::Question {
         counts: question.counts,
         table: question.table,

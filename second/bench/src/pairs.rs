@@ -46,7 +46,8 @@ pub fn run() -> bool {
     let mut all_agree = true;
     let mut all_ahead = true;
     let mut blocks = blocks::of_gates();
-    blocks.retain(|block| OPERAND_BITS.contains(&block.n));
+    // Where c is added, n tells another number of inputs.
+    blocks.retain(|block| OPERAND_BITS.contains(&block.n) && !block.reading.adds());
     blocks.sort_by_key(|block| block.n);
     for block in &blocks {
         let row = row(block);

@@ -2,8 +2,8 @@
 
 use crate::judges::{by_hash, by_second, Lent, LentToHash, Question, Verdict};
 use crate::pairs::{try_all, Tried};
-use second::brute::least_wrong_pair;
-use second::netlists::{random_records, right_multiplier, with_fault, Made};
+use second::brute::least_wrong_operands;
+use second::netlists::{random_for, right_multiplier, with_fault, Made};
 use second::orders;
 use second::random::Random;
 use second::reading::Reading;
@@ -12,11 +12,13 @@ use std::collections::BTreeSet;
 
 /// A right, a faulty or a random netlist with as many outputs as its reading has, some of them large.
 fn netlist(random: &mut Random, records: Records, reading: Reading, most_bits: usize) -> Made {
-    let n = 1 + random.below(most_bits) as u32;
+    // With c there are twice as many inputs.
+    let most = if reading.adds() { 3 } else { most_bits };
+    let n = 1 + random.below(most) as u32;
     match random.below(4) {
         0 => {
             let count = random.pick(&[0, 3, 20, 70, 400]);
-            random_records(random, records, 2 * n, reading.outputs(n), count)
+            random_for(random, records, reading, n, count)
         }
         1 => right_multiplier(random, records, reading, n),
         _ => {
@@ -50,7 +52,7 @@ fn the_hash_judge_answers_as_the_second_program() {
     let mut random = Random::new(1);
     for records in Records::ALL {
         let mut letters = BTreeSet::new();
-        for _ in 0..2_000 {
+        for _ in 0..3_000 {
             let reading = random.pick(&Reading::ALL);
             let made = netlist(&mut random, records, reading, 5);
             let order = order(&mut random, &made);
@@ -66,7 +68,7 @@ fn the_hash_judge_answers_as_the_second_program_at_the_most_variables() {
     let mut random = Random::new(2);
     for reading in [Reading::ALL, Reading::ALL].concat() {
         for records in Records::ALL {
-            let made = random_records(&mut random, records, 64, reading.outputs(32), 959);
+            let made = random_for(&mut random, records, reading, reading.most_bits(), 959);
             let order = orders::falling(made.counts);
             agreed(&made, reading.kind(), 16_384, &order[..40]);
             agreed(&made, reading.kind(), 128, &order[..40]);
@@ -78,11 +80,11 @@ fn the_hash_judge_answers_as_the_second_program_at_the_most_variables() {
 fn trying_all_pairs_finds_what_the_second_program_finds() {
     let mut random = Random::new(3);
     let mut found = [0, 0];
-    for _ in 0..1_000 {
+    for _ in 0..1_600 {
         let reading = random.pick(&Reading::ALL);
         let made = netlist(&mut random, Records::Gates, reading, 5);
         let kind = reading.kind();
-        let wrong = least_wrong_pair(made.counts, &made.table, made.records, kind);
+        let wrong = least_wrong_operands(made.counts, &made.table, made.records, kind);
         let expected = match wrong.expect("a netlist with the outputs of its reading") {
             Some(_) => Tried::SomeWrong,
             None => Tried::AllRight,

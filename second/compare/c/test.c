@@ -156,6 +156,20 @@ static void cell_values(void)
         }
 }
 
+/* One bit that adds c: the first word is a + 2b, the second c. Bits from I/2 = 2 up are absent. */
+static void sum_values(void)
+{
+    static const uint32_t counts[] = {11, 4, 0, 2, 7};
+    static const uint32_t table[] = {16, 22, 4, 2, 10, 6, 11, 7, 15, 13, 12, 8, 13, 9, 21, 19};
+    for (uint64_t x = 0; x < 4; x++)
+        for (uint64_t y = 0; y < 4; y++) {
+            uint64_t wanted = (x % 2 * (x / 2) + y) % 4, above = ~UINT64_C(3);
+            evaluates("a sum", counts, table, 16, x, y, HRASKELL_DONE, wanted);
+            evaluates("bits above are absent", counts, table, 16, x | above, y | above, HRASKELL_DONE, wanted);
+            evaluates("bit I/2 is absent", counts, table, 16, x | 4, y | 4, HRASKELL_DONE, wanted);
+        }
+}
+
 static void cell_values_refused(void)
 {
     static const uint32_t right[] = {6, 0, 136, 1, 2, 0}, byte_256[] = {6, 0, 256, 1, 2, 0};
@@ -179,6 +193,7 @@ int main(void)
     values();
     values_refused();
     cell_values();
+    sum_values();
     cell_values_refused();
     return verdict("reading and evaluating from C");
 }

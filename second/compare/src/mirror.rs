@@ -8,8 +8,8 @@ use second::{evaluate_by, judge_by, read_by, Answer, Counts, Records, Rules};
 const REFUSED: u32 = 100;
 /// M, I, L, O, A.
 const COUNT_WORDS: usize = 5;
-/// Steps, terms, a, b, got, wanted.
-const ANSWER_WORDS: usize = 6;
+/// Steps, terms, a, b, c, got, wanted.
+const ANSWER_WORDS: usize = 7;
 
 /// What the exported functions add to the rules of the document.
 #[derive(Clone, Copy)]
@@ -19,6 +19,9 @@ struct Boundary {
     refusal_changes_nothing: bool,
     every_number_but_0_is_cells: bool,
     cells_is_32_bits: bool,
+    c_is_measured: bool,
+    c_comes_after_b: bool,
+    c_has_a_word_under_every_kind: bool,
 }
 
 impl Boundary {
@@ -29,6 +32,9 @@ impl Boundary {
             refusal_changes_nothing: true,
             every_number_but_0_is_cells: true,
             cells_is_32_bits: true,
+            c_is_measured: true,
+            c_comes_after_b: true,
+            c_has_a_word_under_every_kind: true,
         }
     }
 
@@ -91,6 +97,9 @@ impl Mirror {
                 }),
             ]);
         }
+        if function == "judge" {
+            mutants.extend(of_answers());
+        }
         mutants
     }
 
@@ -119,7 +128,8 @@ impl Mirror {
 
     pub fn judge(&self, question: Question, answer: &mut [u64]) -> u32 {
         let records = self.boundary.records(question.cells);
-        self.bounded(answer, ANSWER_WORDS, || {
+        let needed = ANSWER_WORDS - usize::from(!self.boundary.c_is_measured);
+        self.bounded(answer, needed, || {
             let Question {
                 counts,
                 table,
@@ -129,7 +139,7 @@ impl Mirror {
                 lent,
                 ..
             } = question;
-            numbered(judge_by(
+            let answer = judge_by(
                 &self.rules,
                 counts,
                 table,
@@ -138,7 +148,8 @@ impl Mirror {
                 limit,
                 order,
                 lent,
-            ))
+            );
+            numbered(&self.boundary, kind, answer)
         })
     }
 
@@ -163,9 +174,11 @@ impl Mirror {
                 return REFUSED + refusal;
             }
         };
-        buffer[..words.len()].copy_from_slice(&words);
+        // A bent rule may take a buffer that is too short for all words.
+        let written = words.len().min(buffer.len());
+        buffer[..written].copy_from_slice(&words[..written]);
         if !self.boundary.other_words_are_kept {
-            buffer[words.len()..].fill(T::default());
+            buffer[written..].fill(T::default());
         }
         number
     }
@@ -178,8 +191,23 @@ fn bend(name: &'static str, change: fn(&mut Boundary)) -> (&'static str, Mirror)
     (name, mutant)
 }
 
+/// Bent rules of the words that go with D.
+fn of_answers() -> [(&'static str, Mirror); 3] {
+    [
+        bend("six words are enough for an answer", |boundary| {
+            boundary.c_is_measured = false
+        }),
+        bend("c stands before a", |boundary| {
+            boundary.c_comes_after_b = false
+        }),
+        bend("no word for c where it is not added", |boundary| {
+            boundary.c_has_a_word_under_every_kind = false
+        }),
+    ]
+}
+
 /// The number of an answer and the words that go with it.
-fn numbered(answer: Answer) -> Result<(u32, Vec<u64>), u32> {
+fn numbered(boundary: &Boundary, kind: u32, answer: Answer) -> Result<(u32, Vec<u64>), u32> {
     let (number, words) = match answer {
         Answer::Equal { steps, terms } => (0, vec![steps.into(), terms.into()]),
         Answer::Differs {
@@ -187,9 +215,20 @@ fn numbered(answer: Answer) -> Result<(u32, Vec<u64>), u32> {
             terms,
             a,
             b,
+            c,
             got,
             wanted,
-        } => (1, vec![steps.into(), terms.into(), a, b, got, wanted]),
+        } => {
+            let operands = if kind < 3 && !boundary.c_has_a_word_under_every_kind {
+                vec![a, b]
+            } else if boundary.c_comes_after_b {
+                vec![a, b, c]
+            } else {
+                vec![c, a, b]
+            };
+            let counts = [steps.into(), terms.into()];
+            (1, [&counts[..], &operands, &[got, wanted]].concat())
+        }
         Answer::OutOfRoom { step, terms } => (2, vec![step.into(), terms.into()]),
         Answer::Unfinished { steps, terms } => (3, vec![steps.into(), terms.into()]),
         Answer::Refused(number) => return Err(number),

@@ -1,18 +1,21 @@
-//! The evaluator of one operand pair: the library against the second program.
+//! The evaluator: the library against the second program.
 
 use compare::library;
 use compare::mirror::{number_of, Mirror};
 use compare::outcome::{first_difference, numbers_given, Guarded, Outcome};
+use second::blocks::{self, Block};
 use second::cases::pairs::{self, PairCase};
 use second::random::Random;
-use second::{Counts, Records};
+use second::reading::{low_bits, Operands};
+use second::{wanted, Counts, Records};
 use std::sync::LazyLock;
 
 type Generator = fn(&mut Random, Records) -> PairCase;
 
 /// Each generator of cases, and how many of each kind of record are taken from it.
-const GENERATORS: [(usize, Generator); 5] = [
+const GENERATORS: [(usize, Generator); 6] = [
     (6_000, pairs::sound),
+    (2_000, pairs::of_sums),
     (3_000, pairs::random),
     (2_000, pairs::of_wrong_counts),
     (1_500, pairs::of_short_table),
@@ -41,10 +44,10 @@ impl EvaluateCase {
         &self,
         evaluator: impl Fn(Counts, &[u32], u32, u64, u64, &mut [u64]) -> u32,
     ) -> Outcome {
-        let PairCase { counts, a, b, .. } = self.pair;
+        let PairCase { counts, x, y, .. } = self.pair;
         let table = Guarded::holding(&self.pair.table);
         let mut word = Guarded::<u64>::marked(self.result_words);
-        let number = evaluator(counts, table.lent(), self.cells, a, b, word.lent_mut());
+        let number = evaluator(counts, table.lent(), self.cells, x, y, word.lent_mut());
         Outcome {
             number,
             buffers: vec![table.named("table"), word.named("word")],
@@ -89,6 +92,29 @@ fn evaluating_gives_the_same_numbers_and_words() {
     let library = |case: &EvaluateCase| case.outcome(library::evaluate);
     let difference = first_difference(&CASES, library, |case| case.by(&document));
     assert!(difference.is_none(), "{}", difference.unwrap());
+}
+
+/// The real blocks at random operands: the library shows the word that their reading wants, whatever stands in the bits
+/// from I/2 up.
+#[test]
+fn evaluating_real_blocks_gives_the_wanted_word() {
+    let mut random = Random::new(3);
+    for block in blocks::all() {
+        let Block {
+            reading, n, made, ..
+        } = &block;
+        for _ in 0..100 {
+            let (a, b, c) = (random.word(), random.word(), random.word());
+            let (x, y) = reading.words(*n, Operands { a, b, c });
+            let above = !low_bits(made.counts.half());
+            let (x, y) = (x ^ random.word() & above, y ^ random.word() & above);
+            let mut word = [0];
+            let cells = number_of(made.records, 0);
+            let number = library::evaluate(made.counts, &made.table, cells, x, y, &mut word);
+            let expected = wanted(reading.kind(), *n, a, b, c);
+            assert_eq!((number, word), (0, [expected]), "{}", block.name);
+        }
+    }
 }
 
 #[test]

@@ -1,15 +1,19 @@
 //! Judging: the library against the second program.
 
 use compare::mirror::{number_of, Mirror};
-use compare::outcome::{first_difference, numbers_given, Guarded, Outcome};
+use compare::outcome::{first_difference, numbers_given, Guarded, Outcome, GUARDS};
 use compare::{library, Question};
+use second::cases::adding::{one_bit, only_c};
 use second::cases::cells::{and_cell, cell};
 use second::cases::judgements::{self, and_netlist, two_bits, JudgeCase};
-use second::cases::runs;
-use second::netlists::{random_records, random_sound, Made};
+use second::cases::{marked_words, runs};
+use second::cell_netlists::gates_as_cells;
+use second::netlists::{random_for, random_sound, Made};
 use second::orders;
 use second::random::Random;
+use second::reading::Reading;
 use second::{Lent, Records, Step};
+use std::collections::BTreeSet;
 use std::sync::LazyLock;
 
 #[derive(Clone, Debug)]
@@ -22,7 +26,7 @@ struct Call {
 impl Call {
     /// A call with just the words that an answer needs.
     fn new(case: JudgeCase) -> Call {
-        Call::lending(case, 6)
+        Call::lending(case, 7)
     }
 
     fn lending(case: JudgeCase, answer_words: usize) -> Call {
@@ -93,12 +97,12 @@ fn calls() -> Vec<Call> {
         calls.extend(refusal_calls(&mut random, records));
     }
     calls.extend(runs::real_blocks().into_iter().map(Call::new));
-    for turn in 0..5_000 {
+    for turn in 0..8_000 {
         let mut case = judgements::random(&mut random, Records::ALL[turn % 2]);
         if random.one_in(2) {
             runs::lend_more(&mut random, &mut case);
         }
-        let answer_words = random.pick(&[6, 6, 6, 6, 6, 6, 7, 11, 5]);
+        let answer_words = random.pick(&[7, 7, 7, 7, 7, 7, 8, 11, 6]);
         calls.push(Call::lending(case, answer_words));
     }
     calls
@@ -108,12 +112,12 @@ fn calls() -> Vec<Call> {
 fn edge_calls() -> Vec<Call> {
     let mut calls = Vec::new();
     for case in judgements::edges() {
-        for answer_words in [6, 9] {
+        for answer_words in [7, 9] {
             calls.push(Call::lending(case.clone(), answer_words));
         }
     }
     for (place, case) in judgements::edges().into_iter().enumerate() {
-        calls.push(Call::lending(case, [5, 0][place % 2]));
+        calls.push(Call::lending(case, [6, 0][place % 2]));
     }
     calls
 }
@@ -142,10 +146,10 @@ fn size_calls(random: &mut Random, records: Records) -> Vec<Call> {
     for steps in [4_095, 4_096, 4_097] {
         cases.extend((0..4).map(|_| runs::long_order(random, records, steps)));
     }
-    let largest = random_records(random, records, 64, 64, 959);
-    for kind in 0..2 {
+    for reading in Reading::ALL {
+        let largest = random_for(random, records, reading, reading.most_bits(), 959);
         let order = orders::falling(largest.counts)[..20].to_vec();
-        cases.push(JudgeCase::new(&largest, kind, 16_384, order));
+        cases.push(JudgeCase::new(&largest, reading.kind(), 16_384, order));
     }
     cases.into_iter().map(Call::new).collect()
 }
@@ -155,7 +159,7 @@ fn refusal_calls(random: &mut Random, records: Records) -> Vec<Call> {
     let mut calls = Vec::new();
     for _ in 0..8 {
         for case in runs::refusals(random, records) {
-            for answer_words in [random.pick(&[6, 8]), random.pick(&[0, 5])] {
+            for answer_words in [random.pick(&[7, 8]), random.pick(&[0, 6])] {
                 calls.push(Call::lending(case.clone(), answer_words));
             }
         }
@@ -196,6 +200,7 @@ fn named() -> Vec<Named> {
     let mut named = bench_sheet();
     named.extend(at_the_limits());
     named.extend(cells_by_hand());
+    named.extend(sums_by_hand());
     let mut random = Random::new(4);
     for turn in 0..12 {
         let records = Records::ALL[turn % 2];
@@ -217,16 +222,16 @@ fn bench_sheet() -> Vec<Named> {
     vec![
         ("P1", and(&[6, 0], 0, &[3]), Said::Answers(0, &[1, 0])),
         ("P2", and(&[6, 0], 1, &[3]), Said::Answers(0, &[1, 0])),
-        ("P3", and(&[6, 6], 0, &[3]), Said::Answers(1, &[1, 1, 1, 1, 3, 1])),
-        ("P4", and(&[6, 6], 1, &[3]), Said::Answers(1, &[1, 1, 1, 1, 3, 1])),
-        ("P5", and(&[7, 0], 0, &[3]), Said::Answers(1, &[1, 2, 0, 0, 1, 0])),
+        ("P3", and(&[6, 6], 0, &[3]), Said::Answers(1, &[1, 1, 1, 1, 0, 3, 1])),
+        ("P4", and(&[6, 6], 1, &[3]), Said::Answers(1, &[1, 1, 1, 1, 0, 3, 1])),
+        ("P5", and(&[7, 0], 0, &[3]), Said::Answers(1, &[1, 2, 0, 0, 0, 1, 0])),
         ("P6", and(&[6, 0], 0, &[]), Said::Answers(3, &[0, 2])),
         ("P7", and(&[6, 0], 0, &[3, 3]), Said::Answers(0, &[2, 0])),
         ("P8", and(&[6], 2, &[3]), Said::Answers(0, &[1, 0])),
-        ("P9", judged(&example, 0, &[3]), Said::Answers(1, &[1, 3, 1, 0, 1, 0])),
+        ("P9", judged(&example, 0, &[3]), Said::Answers(1, &[1, 3, 1, 0, 0, 1, 0])),
         ("P10", judged(&two_bits(), 0, &falling), Said::Answers(0, &[10, 0])),
         ("P10 at the start", judged(&two_bits(), 0, &[]), Said::Answers(3, &[0, 8])),
-        ("P11", judged(&two_bits(), 1, &falling), Said::Answers(1, &[10, 2, 2, 1, 2, 14])),
+        ("P11", judged(&two_bits(), 1, &falling), Said::Answers(1, &[10, 2, 2, 1, 0, 2, 14])),
     ]
 }
 
@@ -272,17 +277,71 @@ fn cells_by_hand() -> Vec<Named> {
     let parity = Made::of_cells(4, &[10, 0, 0, 0], &[cell(150, 1, 2, 3)]);
     vec![
         ("a cell of P1", and(&[6, 0], 0), Said::Answers(0, &[1, 0])),
-        ("a cell of P3", and(&[6, 6], 0), Said::Answers(1, &[1, 1, 1, 1, 3, 1])),
-        ("a cell of P5", and(&[7, 0], 0), Said::Answers(1, &[1, 2, 0, 0, 1, 0])),
-        ("byte 150", JudgeCase::new(&parity, 0, 128, vec![5]), Said::Answers(1, &[1, 9, 1, 0, 1, 0])),
+        ("a cell of P3", and(&[6, 6], 0), Said::Answers(1, &[1, 1, 1, 1, 0, 3, 1])),
+        ("a cell of P5", and(&[7, 0], 0), Said::Answers(1, &[1, 2, 0, 0, 0, 1, 0])),
+        ("byte 150", JudgeCase::new(&parity, 0, 128, vec![5]), Said::Answers(1, &[1, 9, 1, 0, 0, 1, 0])),
         ("O + 4A words less one", with(|case| case.table.truncate(5)), Said::Refused(3)),
-        ("byte 255", with(|case| case.table[2] = 255), Said::Answers(1, &[1, 2, 0, 0, 1, 0])),
+        ("byte 255", with(|case| case.table[2] = 255), Said::Answers(1, &[1, 2, 0, 0, 0, 1, 0])),
         ("byte 256", with(|case| case.table[2] = 256), Said::Refused(8)),
         ("its own variable", with(|case| case.table[5] = 3), Said::Refused(8)),
         ("8T(W + 1) words of scratch", with(|case| case.scratch_words = 2_048), Said::Answers(0, &[1, 0])),
         ("one less", with(|case| case.scratch_words = 2_047), Said::Refused(12)),
         ("4T(W + 1) words of scratch", with(|case| case.scratch_words = 1_024), Said::Refused(12)),
     ]
+}
+
+/// Multiply and add, worked out by hand from document 02, section 12.
+#[rustfmt::skip]
+fn sums_by_hand() -> Vec<Named> {
+    let judged = |made: &Made, kind, limit| {
+        let order = orders::falling(made.counts);
+        JudgeCase::new(made, kind, limit, order)
+    };
+    let sized = |inputs, outputs: usize| Made::new(inputs, &vec![1; outputs], &[]);
+    let right = one_bit(&[16, 22]);
+    let as_cells = gates_as_cells(&right);
+    // Every output is 1 at n = 16: 2^32 - 1, 256 products and 32 bits of c.
+    let widest: &'static [u64] = &[0, 289, 0, 0, 0, 0xffff_ffff, 0];
+    vec![
+        ("one bit under m", judged(&right, 3, 128), Said::Answers(0, &[7, 0])),
+        ("one bit under ms", judged(&right, 4, 128), Said::Answers(0, &[7, 0])),
+        ("one bit of cells under m", judged(&as_cells, 3, 128), Said::Answers(0, &[7, 0])),
+        ("one bit under t", judged(&right, 2, 128), Said::Answers(1, &[7, 6, 0, 1, 0, 1, 0])),
+        ("one bit under u", judged(&right, 0, 128), Said::Refused(9)),
+        ("kind 5", judged(&right, 5, 128), Said::Refused(9)),
+        ("kind 256 + 3", judged(&right, 256 + 3, 128), Said::Refused(9)),
+        ("c_0 left out", judged(&one_bit(&[10, 8]), 3, 128), Said::Answers(1, &[7, 1, 0, 0, 1, 0, 1])),
+        ("c_1 left out", judged(&one_bit(&[16, 0]), 4, 128), Said::Answers(1, &[7, 2, 0, 0, 2, 0, 2])),
+        ("the product left out", judged(&only_c(1), 3, 128), Said::Answers(1, &[0, 1, 1, 1, 0, 0, 1])),
+        ("b shown for c_0", judged(&Made::new(4, &[4, 8], &[]), 3, 128), Said::Answers(1, &[0, 3, 0, 1, 0, 1, 0])),
+        ("ab and c_0 left out", judged(&Made::new(4, &[0, 8], &[]), 3, 128), Said::Answers(1, &[0, 2, 0, 0, 1, 0, 1])),
+        ("I 2 under m", judged(&sized(2, 1), 3, 128), Said::Refused(9)),
+        ("I 6 under m", judged(&sized(6, 3), 3, 128), Said::Refused(9)),
+        ("I 6 under ms, O 2", judged(&sized(6, 2), 4, 128), Said::Refused(9)),
+        ("O one less than l", judged(&sized(8, 3), 3, 128), Said::Refused(9)),
+        ("O one more than l", judged(&sized(8, 5), 4, 128), Said::Refused(9)),
+        ("I 64 under m", judged(&sized(64, 32), 3, 289), Said::Answers(1, widest)),
+        ("I 64 under ms", judged(&sized(64, 32), 4, 289), Said::Answers(1, widest)),
+        ("one term too many", judged(&sized(64, 32), 3, 288), Said::FullAtStart(true)),
+    ]
+}
+
+/// What is said of a call that lends fewer words than an answer needs, and of one that lends just enough.
+#[test]
+fn seven_words_are_enough_for_every_answer_and_six_for_none() {
+    let sum = one_bit(&[10, 8]);
+    for kind in 0..6 {
+        for made in [&and_netlist(&[6, 6]), &sum] {
+            let case = JudgeCase::new(made, kind, 128, orders::falling(made.counts));
+            let by = |words| Call::lending(case.clone(), words).by_library();
+            assert_eq!(by(6).number, 112, "kind {kind}");
+            assert_ne!(by(7).number, 112, "kind {kind}");
+        }
+    }
+    let differing = Call::lending(JudgeCase::new(&and_netlist(&[6, 6]), 0, 128, vec![3]), 9);
+    let outcome = differing.by_library();
+    assert_eq!(outcome.words("answer")[..7], [1, 1, 1, 1, 0, 3, 1]);
+    assert_eq!(outcome.words("answer")[7..], marked_words(9 + GUARDS)[7..]);
 }
 
 #[test]
@@ -309,14 +368,25 @@ fn the_cases_that_the_document_names_are_answered_as_it_says() {
     }
 }
 
+/// Every answer under each kind, and every refusal under some.
 #[test]
 fn the_cases_of_judging_meet_every_number() {
     let document = Mirror::of_document();
-    let (gates, cells): (Vec<&Call>, Vec<&Call>) = CALLS.iter().partition(|call| call.cells == 0);
-    for calls in [gates, cells] {
-        let numbers = numbers_given(&calls, |call| call.by(&document));
+    // Stands for all numbers that are no kinds.
+    let no_kind = 5;
+    for records in Records::ALL {
+        let mut met = BTreeSet::new();
+        for kind in 0..=no_kind {
+            let mut calls: Vec<&Call> = CALLS.iter().collect();
+            calls.retain(|call| call.case.records == records);
+            calls.retain(|call| call.case.kind.min(no_kind) == kind);
+            let numbers = numbers_given(&calls, |call| call.by(&document));
+            let has_answers = numbers.starts_with(&[0, 1, 2, 3]);
+            assert!(has_answers || kind == no_kind, "kind {kind}: {numbers:?}");
+            met.extend(numbers);
+        }
         let expected = [0, 1, 2, 3, 102, 103, 108, 109, 110, 111, 112];
-        assert_eq!(numbers, expected);
+        assert_eq!(met, BTreeSet::from(expected));
     }
 }
 

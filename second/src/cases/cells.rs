@@ -138,7 +138,7 @@ fn joined_and_vanished() -> Vec<JudgeCase> {
 fn small() -> Vec<JudgeCase> {
     let mut cases = Vec::new();
     for outputs in [&[6, 0][..], &[6, 6], &[7, 0], &[6], &[0, 1], &[2, 5]] {
-        for kind in [0, 1, 2, 3, 256] {
+        for kind in [0, 1, 2, 3, 4, 5, 256] {
             for order in [vec![], vec![3], vec![3, 3]] {
                 cases.push(JudgeCase::new(&and_cell(outputs), kind, 128, order));
             }
@@ -219,7 +219,7 @@ fn lengths() -> Vec<JudgeCase> {
 fn handed_in_wrong() -> Vec<JudgeCase> {
     let mut cases = Vec::new();
     for made in made_at_limits() {
-        for kind in 0..3 {
+        for kind in 0..5 {
             cases.push(JudgeCase::new(&made, kind, 128, vec![]));
         }
     }

@@ -2,9 +2,9 @@
 
 use super::pairs::wrong_netlists;
 use super::texts::made_at_limits;
-use super::{cells, marked_steps, marked_words};
+use super::{adding, cells, marked_steps, marked_words};
 use crate::judge::{judge_by, Answer};
-use crate::netlists::{random_records, right_multiplier, with_fault, Made};
+use crate::netlists::{random_for, right_multiplier, with_fault, Made};
 use crate::orders;
 use crate::random::Random;
 use crate::reading::Reading;
@@ -135,6 +135,7 @@ pub fn edges() -> Vec<JudgeCase> {
     cases.extend(handed_in_wrong());
     cases.extend(two_refusals(&and_netlist(&[6, 0])));
     cases.extend(cells::judgements());
+    cases.extend(adding::judgements());
     cases
 }
 
@@ -143,13 +144,13 @@ fn bench_sheet() -> Vec<JudgeCase> {
     let mut cases = Vec::new();
     let small = [&[6, 0][..], &[6, 6], &[7, 0], &[6], &[7], &[0, 1], &[2, 5]];
     for outputs in small {
-        for kind in [0, 1, 2, 3, 256, 257, 258, u32::MAX] {
+        for kind in [0, 1, 2, 3, 4, 5, 256, 257, 258, 259, 260, u32::MAX] {
             for order in [vec![], vec![3], vec![3, 3]] {
                 cases.push(JudgeCase::new(&and_netlist(outputs), kind, 128, order));
             }
         }
     }
-    for kind in 0..3 {
+    for kind in 0..5 {
         let falling = orders::falling(two_bits().counts);
         cases.push(JudgeCase::new(&two_bits(), kind, 128, falling));
         cases.push(JudgeCase::new(&two_bits(), kind, 128, vec![]));
@@ -235,7 +236,7 @@ fn lengths() -> Vec<JudgeCase> {
 fn handed_in_wrong() -> Vec<JudgeCase> {
     let mut cases = Vec::new();
     for made in made_at_limits().iter().chain(&wrong_netlists()) {
-        for kind in 0..3 {
+        for kind in 0..5 {
             cases.push(JudgeCase::new(made, kind, 128, vec![]));
         }
     }
@@ -248,12 +249,16 @@ fn handed_in_wrong() -> Vec<JudgeCase> {
 
 /// Pairs of wrong things, so that the order of the checks shows. The netlist is right, and has one gate or cell.
 pub fn two_refusals(made: &Made) -> Vec<JudgeCase> {
-    let right = JudgeCase::new(made, 0, 128, vec![3]);
+    two_refusals_of(&JudgeCase::new(made, 0, 128, vec![3]))
+}
+
+/// The same for any case that is taken.
+pub fn two_refusals_of(right: &JudgeCase) -> Vec<JudgeCase> {
     let wrong: [fn(&mut JudgeCase); 9] = [
         |case| case.counts.l = 1,
         |case| case.table.truncate(3),
-        |case| case.table[0] = 8,
-        |case| case.kind = 3,
+        |case| case.table[0] = 2 * case.counts.m + 2,
+        |case| case.kind = 5,
         |case| case.limit = 127,
         |case| case.limit = 16_385,
         |case| case.order = vec![2],
@@ -293,7 +298,9 @@ pub fn random(random: &mut Random, records: Records) -> JudgeCase {
 
 /// Right multipliers, multipliers with a fault, and netlists with nothing in mind.
 pub fn random_netlist(random: &mut Random, records: Records, reading: Reading) -> Made {
-    let n = 1 + random.below(4) as u32;
+    // With c there are twice as many inputs.
+    let most = if reading.adds() { 3 } else { 4 };
+    let n = 1 + random.below(most) as u32;
     match random.below(4) {
         0 => right_multiplier(random, records, reading, n),
         1 => {
@@ -302,7 +309,7 @@ pub fn random_netlist(random: &mut Random, records: Records, reading: Reading) -
         }
         _ => {
             let count = random.below(16) as u32;
-            random_records(random, records, 2 * n, reading.outputs(n), count)
+            random_for(random, records, reading, n, count)
         }
     }
 }

@@ -4,6 +4,7 @@
 //! word. The words are marked beforehand, so a word that was left alone can
 //! be told from one that was written.
 
+pub mod adding;
 pub mod cells;
 pub mod damages;
 pub mod desks;

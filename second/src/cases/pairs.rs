@@ -1,10 +1,10 @@
-//! Cases for the evaluator of one operand pair.
+//! Cases for the evaluator. Its two words are a and b, or a + 2^n·b and c.
 
 use super::texts::made_at_limits;
 use super::{cells, marked_numbers, wrong};
-use crate::netlists::{random_records, random_size, Made};
+use crate::netlists::{random_records, random_size, right_multiplier, with_fault, Made};
 use crate::random::Random;
-use crate::reading::low_bits;
+use crate::reading::{low_bits, Reading};
 use crate::records::Records;
 use crate::rules::Rules;
 use crate::table::{evaluate_by, Counts};
@@ -14,24 +14,24 @@ pub struct PairCase {
     pub counts: Counts,
     pub table: Vec<u32>,
     pub records: Records,
-    pub a: u64,
-    pub b: u64,
+    pub x: u64,
+    pub y: u64,
 }
 
 impl PairCase {
-    pub fn new(made: &Made, a: u64, b: u64) -> PairCase {
+    pub fn new(made: &Made, x: u64, y: u64) -> PairCase {
         PairCase {
             counts: made.counts,
             table: made.table.clone(),
             records: made.records,
-            a,
-            b,
+            x,
+            y,
         }
     }
 
     pub fn seen(&self, rules: &Rules) -> Result<u64, u32> {
         let (counts, records) = (self.counts, self.records);
-        evaluate_by(rules, counts, &self.table, records, self.a, self.b)
+        evaluate_by(rules, counts, &self.table, records, self.x, self.y)
     }
 }
 
@@ -43,8 +43,8 @@ pub fn edges() -> Vec<PairCase> {
         .chain(cells::wrong_netlists());
     let mut cases = Vec::new();
     for made in gates.chain(cells) {
-        for (a, b) in [(0, 0), (1, 2), (u64::MAX, 5), (6, u64::MAX)] {
-            cases.push(PairCase::new(&made, a, b));
+        for (x, y) in [(0, 0), (1, 2), (u64::MAX, 5), (6, u64::MAX)] {
+            cases.push(PairCase::new(&made, x, y));
         }
     }
     for made in cells::all_bytes_shown() {
@@ -132,8 +132,8 @@ pub fn random(random: &mut Random, records: Records) -> PairCase {
     if random.one_in(10) {
         made.table.push(random.word() as u32);
     }
-    let (a, b) = (random.word(), random.word());
-    PairCase::new(&made, a, b)
+    let (x, y) = (random.word(), random.word());
+    PairCase::new(&made, x, y)
 }
 
 /// A sound netlist of any size, any O, at any pair; sometimes with words past its table.
@@ -142,20 +142,33 @@ pub fn sound(random: &mut Random, records: Records) -> PairCase {
     if random.one_in(4) {
         made.table.extend(marked_numbers(1 + random.below(6)));
     }
-    let n = made.counts.n();
-    let (a, b) = (operand(random, n), operand(random, n));
-    PairCase::new(&made, a, b)
+    let half = made.counts.half();
+    let (x, y) = (input_word(random, half), input_word(random, half));
+    PairCase::new(&made, x, y)
 }
 
-/// A word with bits of the operand, with bits from n up, or with both.
-fn operand(random: &mut Random, n: u32) -> u64 {
+/// A word with bits of the inputs, with bits from I/2 up, or with both.
+fn input_word(random: &mut Random, half: u32) -> u64 {
     let word = random.word();
     match random.below(4) {
-        0 => word & low_bits(n),
-        1 => word & !low_bits(n),
+        0 => word & low_bits(half),
+        1 => word & !low_bits(half),
         2 => 1 << random.below(64),
         _ => word,
     }
+}
+
+/// A block that adds c, right or with a fault, at any words.
+pub fn of_sums(random: &mut Random, records: Records) -> PairCase {
+    let reading = random.pick(&[Reading::Adding, Reading::SignedAdding]);
+    let n = 1 + random.below(3) as u32;
+    let mut made = right_multiplier(random, records, reading, n);
+    if random.one_in(2) {
+        made = with_fault(random, &made);
+    }
+    let half = made.counts.half();
+    let (x, y) = (input_word(random, half), input_word(random, half));
+    PairCase::new(&made, x, y)
 }
 
 /// A sound case but for its counts.

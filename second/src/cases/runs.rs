@@ -4,7 +4,7 @@ use super::judgements::{self, random_order, JudgeCase};
 use super::{marked_numbers, wrong};
 use crate::blocks;
 use crate::cell_netlists::gates_as_cells;
-use crate::netlists::{random_records, Made};
+use crate::netlists::{random_for, random_records, Made};
 use crate::orders;
 use crate::polynomial::Polynomial;
 use crate::random::Random;
@@ -52,10 +52,12 @@ fn around(made: &Made, reading: Reading, terms: u64, order: &[u32]) -> Vec<Judge
 /// A start polynomial of 129 terms or more, up to I 64, with T one below, at and one above its number of terms.
 pub fn around_start(random: &mut Random, records: Records) -> Vec<JudgeCase> {
     let reading = random.pick(&Reading::ALL);
-    let n = 16 + random.below(17) as u32;
+    // The products are n², or for t n(n + 1)/2.
+    let least = if reading.adds() { 12 } else { 16 };
+    let n = least + random.below((reading.most_bits() - least) as usize + 1) as u32;
     let count = random.below(12) as u32;
-    let made = random_records(random, records, 2 * n, reading.outputs(n), count);
-    let rules = Rules::of_document().judging;
+    let made = random_for(random, records, reading, n, count);
+    let rules = Rules::of_document();
     let start = Polynomial::start(&rules, &made.netlist(), reading);
     around(&made, reading, start.count() as u64, &[])
 }
@@ -71,13 +73,13 @@ pub fn twelve_bits(random: &mut Random, records: Records, limit: u64) -> JudgeCa
 /// M where a set takes one word more, and at its most; I 64 among them.
 pub fn at_word_borders(random: &mut Random, records: Records) -> JudgeCase {
     let m = random.pick(&[63, 64, 65, 127, 128, 129, 191, 192, 1_022, 1_023]);
+    let reading = random.pick(&Reading::ALL);
     let (n, limit) = if random.one_in(3) && m > 64 {
-        (32, random.pick(&[128, 1_200]))
+        (reading.most_bits(), random.pick(&[128, 1_200]))
     } else {
         (1 + random.below(6) as u32, random.pick(&[128, 200]))
     };
-    let reading = random.pick(&Reading::ALL);
-    let made = random_records(random, records, 2 * n, reading.outputs(n), m - 2 * n);
+    let made = random_for(random, records, reading, n, m - reading.inputs(n));
     let mut order = random_order(random, &made);
     order.truncate(60);
     JudgeCase::new(&made, reading.kind(), limit, order)
@@ -88,7 +90,7 @@ pub fn long_order(random: &mut Random, records: Records, steps: usize) -> JudgeC
     let reading = random.pick(&Reading::ALL);
     let n = 1 + random.below(2) as u32;
     let count = 1 + random.below(12) as u32;
-    let made = random_records(random, records, 2 * n, reading.outputs(n), count);
+    let made = random_for(random, records, reading, n, count);
     let order = orders::arbitrary(random, made.counts, steps);
     JudgeCase::new(&made, reading.kind(), 128, order)
 }
@@ -126,7 +128,7 @@ pub fn real_blocks() -> Vec<JudgeCase> {
     let mut cases = Vec::new();
     for block in blocks::all().into_iter().filter(|block| block.n <= 4) {
         for order in blocks::orders_for(&block, 2) {
-            for kind in 0..3 {
+            for kind in 0..5 {
                 cases.push(JudgeCase::new(&block.made, kind, 256, order.steps.clone()));
             }
         }
@@ -145,9 +147,18 @@ const WRONGS: [Wrong; 10] = [
         case.table.truncate(random.below(needed));
     },
     |random, case| wrong::make_unsound(random, case.counts, case.records, &mut case.table),
-    |random, case| case.kind = random.pick(&[3, 255, 256, 257, 258, 1 << 16, u32::MAX]),
-    // u and s have as many outputs as each other, t has half as many.
-    |_, case| case.kind = if case.kind == 2 { 0 } else { 2 },
+    |random, case| {
+        let no_kinds = [5, 255, 256, 257, 258, 259, 260, 1 << 16, u32::MAX];
+        case.kind = random.pick(&no_kinds);
+    },
+    // u and s have as many outputs as inputs, t, m and ms have half as many.
+    |random, case| {
+        case.kind = if case.kind < 2 {
+            random.pick(&[2, 3, 4])
+        } else {
+            random.pick(&[0, 1])
+        }
+    },
     |random, case| {
         let limits = [0, 1, 127, 16_385, (1 << 32) + 128, u64::MAX];
         case.limit = random.pick(&limits);

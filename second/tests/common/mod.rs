@@ -1,6 +1,7 @@
 //! What several tests need.
 #![allow(dead_code)]
 
+use second::brute::WrongOperands;
 use second::cases::judgements::{JudgeCase, JudgeSeen};
 use second::netlists::Made;
 use second::{Answer, Rules, Step};
@@ -14,6 +15,27 @@ pub fn judged(made: &Made, kind: u32, limit: u64, order: &[u32]) -> JudgeSeen {
 
 pub fn answered(made: &Made, kind: u32, limit: u64, order: &[u32]) -> Answer {
     judged(made, kind, limit, order).answer
+}
+
+/// The operands and words of D; none for any other answer.
+pub fn wrong_operands(answer: &Answer) -> Option<WrongOperands> {
+    match *answer {
+        Answer::Differs {
+            a,
+            b,
+            c,
+            got,
+            wanted,
+            ..
+        } => Some(WrongOperands {
+            a,
+            b,
+            c,
+            got,
+            wanted,
+        }),
+        _ => None,
+    }
 }
 
 /// Whether the store begins with these words and is zero after them.

@@ -8,20 +8,23 @@ use Rattle.desk.proofs.KindLine.{asked-line, says-long, says-kindless, 
 use Rattle.desk.proofs.said.Statement.{statement}
 use Rattle.desk.proofs.said.Tie as tie
 
-kind-asked-requires : tie.Need-kind-asked-requires
-kind-asked-requires c κs = search needs
-
 returns : tie.Need-returns
 unfolding says
-returns c = says-long (c .before .before .before .args .input .now) (c .if1 .taken)
+returns c = says-long (c .before .before .args .input .now) (c .if1 .taken)
 
 returns-2 : tie.Need-returns-2
 unfolding says
 returns-2 c =
-    says-kindless (c .before .before .before .before .args .input .now) (omega arith) (sym (c .before .before .kind-asked .ensures) ∙ c .if2 .taken)
+    let s = c .before .before .before in
+    says-kindless (s .args .input .now) (omega arith) (sym (s .pre) ∙ c .if2 .taken)
+
+line-bytes-requires : tie.Need-line-bytes-requires
+line-bytes-requires c κs = search needs
 
 sub-read-and-judged : tie.Need-sub-read-and-judged
-sub-read-and-judged c = asked-line (c .before .before .before .before .args .input .now) (λ e. c .if2 .left (c .before .before .kind-asked .ensures ∙ e))
+sub-read-and-judged c =
+    let s = c .before .before .before .before in
+    rw (c .line-bytes .ensures, s .pre) (asked-line (s .args .input .now) (λ e. c .before .if2 .left (s .pre ∙ e)))
 
 part-read-and-judged-start : tie.Need-part-read-and-judged-start
 part-read-and-judged-start c = sub-read-and-judged c
@@ -34,18 +37,19 @@ read-and-judged-requires c κs = search needs
 
 returns-3 : tie.Need-returns-3
 returns-3 c =
-    let input = c .before .before .before .before .before .before .args .input .now in
-    let kind = c .before .before .before .before .kind-asked in
-    let short = says-asked input (omega arith) (λ e. c .before .before .if2 .left (kind .ensures ∙ e)) in
-    c .read-and-judged .ensures ∙ rw (part-to-end input 2, kind .ensures) short
+    let bytes = c .before .before .line-bytes in
+    let s = c .before .before .before .before .before .before in
+    let input = s .args .input .now in
+    let short = says-asked input (omega arith) (λ e. c .before .before .before .if2 .left (s .pre ∙ e)) in
+    c .read-and-judged .ensures ∙ rw (part-to-end input (bytes .result), bytes .ensures, s .pre) short
 
 pub said-spec : {M : Type 1} → statement M
 said-spec =
     tie.close
     (tie.spec
-    kind-asked-requires
     returns
     returns-2
+    line-bytes-requires
     sub-read-and-judged
     part-read-and-judged-start
     part-read-and-judged-end

@@ -2,7 +2,8 @@
 use Prim.Native.Nat.{_-_}
 use native.Mathlib.Omega.{arith}
 use borrow.Author.Needs.{needs}
-use Rattle.product.proofs.Readings.{one-shift, negative-test}
+use Rattle.rules.specs.Product.{negative, operand}
+use Rattle.product.proofs.Readings.{one-shift}
 use Rattle.product.proofs.negative.Statement.{statement}
 use Rattle.product.proofs.negative.Tie as tie
 
@@ -15,13 +16,15 @@ cast-result c = search needs
 shl-result : tie.Need-shl-result
 shl-result c = search needs
 
+complement-requires : tie.Need-complement-requires
+complement-requires c κs = search needs
+
 low-requires : tie.Need-low-requires
 low-requires c κs = search needs
 
 returns : tie.Need-returns
-returns c =
-    let a = c .before .args in
-    rw (one-shift (a .n - 1) (omega arith), c .low .ensures) (negative-test (a .kind) (a .n) (a .x))
+unfolding negative operand
+returns c = rw (one-shift (c .before .before .args .n - 1) (omega arith), c .low .ensures, c .before .complement .ensures)
 
 pub negative-spec : {M : Type 1} → statement M
-negative-spec = tie.close (tie.spec sub-result cast-result shl-result low-requires returns)
+negative-spec = tie.close (tie.spec complement-requires sub-result cast-result shl-result low-requires returns)

@@ -1,5 +1,4 @@
 -- `outputs` by the kind. Assumes nothing.
-use native.Mathlib.Omega.{arith}
 use borrow.Author.Needs.{needs}
 use Rattle.rules.specs.Product.{kind-of, outputs-of}
 use Rattle.product.proofs.Readings.{outputs-whole}
@@ -14,7 +13,7 @@ mul-result : tie.Need-mul-result
 mul-result c = search needs
 
 returns-2 : tie.Need-returns-2
-returns-2 c = outputs-whole (c .before .args .kind) (c .before .args .n) (omega arith)
+returns-2 c = outputs-whole (c .before .args .kind) (c .before .args .n) (c .if1 .left)
 
 pub outputs-spec : {M : Type 1} → statement M
 outputs-spec = tie.close (tie.spec returns mul-result returns-2)

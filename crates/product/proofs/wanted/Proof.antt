@@ -3,7 +3,7 @@ use mathlib.Core.Path.{sym, _∙_}
 use borrow.Author.Needs.{needs}
 use Rattle.rules.specs.Product.{wanting}
 use Rattle.rules.specs.Says.{first, refuse-or, word-says}
-use Rattle.product.proofs.Readings.{width-right, kind-known}
+use Rattle.product.proofs.Readings.{width-right}
 use Rattle.product.proofs.wanted.Statement.{statement}
 use Rattle.product.proofs.wanted.Tie as tie
 
@@ -30,10 +30,8 @@ returns-2 c =
           );
     }
 
-product-requires : tie.Need-product-requires
-product-requires c κs =
-    let w = width-right _ (sym (c .before .before .before .width-wrong .ensures) ∙ c .before .before .if1 .left) in
-    (w .0, w .1, kind-known _ (sym (c .before .kind-unknown .ensures) ∙ c .if2 .left))
+word-for-requires : tie.Need-word-for-requires
+word-for-requires c κs = width-right _ _ (sym (c .before .before .before .width-wrong .ensures) ∙ c .before .before .if1 .left)
 
 returns-3 : tie.Need-returns-3
 unfolding wanting first refuse-or word-says
@@ -45,7 +43,7 @@ returns-3 c =
             c .before .before .before .if1 .left,
             ← c .before .before .kind-unknown .ensures,
             c .before .if2 .left,
-            ← c .product .ensures,
+            ← c .word-for .ensures,
           );
     }
 
@@ -57,5 +55,5 @@ wanted-spec =
     returns
     kind-unknown-requires
     returns-2
-    product-requires
+    word-for-requires
     returns-3)

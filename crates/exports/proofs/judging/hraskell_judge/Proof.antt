@@ -200,8 +200,8 @@ module _ {M : Type 1} (𝓤 : URA M) (H : Heap 𝓤) (A : Atoms 𝓤) (W : Given
       ∷ ‵ (MutSlice (named 5) κ₅ u64 .own xa (va ∷ [])) ∷ ‵ (ShrSlice (named 0) κ₀ u32 .own xt (vt ∷ [])) ∷ ‵ (ShrSlice (named 1) κ₁ u32 .own xo (vo ∷ []))
       ∷ ‵ (flft κ₀ q₀) ∷ ‵ (flft κ₁ q₁) ∷ ‵ (flft κ₂ q₂) ∷ ‵ (flft κ₃ q₃) ∷ ‵ (flft κ₄ q₄) ∷ ‵ (flft κ₅ q₅) ∷ []
 
-  -- no room for six values: all is given up as it came
-  refuses : length lent < 6 → ent 𝓤 (⋆ 𝓤 H A Lent) (Post (vint w32 112))
+  -- no room for seven values: all is given up as it came
+  refuses : length lent < 7 → ent 𝓤 (⋆ 𝓤 H A Lent) (Post (vint w32 112))
   refuses short =
       qed W Lent ∵
       use1 W (‵ (finally u64 γ₂ ss₀)) (gives-up 𝓤 H A W (named 2) κ₂ u64 xs (vs ∷ [])) $ move ! (1 ∷ []) $
@@ -231,7 +231,7 @@ module _ {M : Type 1} (𝓤 : URA M) (H : Heap 𝓤) (A : Atoms 𝓤) (W : Given
   abbrev PassPut : Answer → Val → List (Item 𝓤)
   PassPut r w = ‵ (MutSlice (named 0) κ₅ u64 .own xa (va ∷ [])) ∷ ‵ (A′.the-row .own r (w ∷ [])) ∷ ‵ (flft κ₅ q₅) ∷ []
 
-  goes-put : (r : Answer) (w : Val) → (6 ≤ length lent) × Refusing r → ent 𝓤 (⋆ 𝓤 H A (PassPut r w)) (PutC 𝓤 H A at-mem run .pre (to-put r w))
+  goes-put : (r : Answer) (w : Val) → (7 ≤ length lent) × Refusing r → ent 𝓤 (⋆ 𝓤 H A (PassPut r w)) (PutC 𝓤 H A at-mem run .pre (to-put r w))
   goes-put r w ready =
       qed W (PassPut r w) ∵ says ! ready $ nothing ! $ move ! (3 ∷ 0 ∷ []) $ join ! $ frame ! $
       nothing ! $ move ! (1 ∷ 0 ∷ []) $ fjoin ! $ move ! (1 ∷ 0 ∷ []) $ fjoin ! $ done !
@@ -313,7 +313,7 @@ module _ {M : Type 1} (𝓤 : URA M) (H : Heap 𝓤) (A : Atoms 𝓤) (W : Given
 
         -- the call of `put_answer`
         closes : (r : Answer) (w : Val) (s z : List ℕ) (log : List StepRecord) → length s ≡ length ss₀ → length z ≡ length zs₀ → length log ≡ length ls₀
-            → 6 ≤ length lent → Judged x r s z log → Sq W (Left r w s z log) (runs C Λ E code-mir.t-12 (atRet E Post))
+            → 7 ≤ length lent → Judged x r s z log → Sq W (Left r w s z log) (runs C Λ E code-mir.t-12 (atRet E Post))
         closes r w s z log e-s e-z e-l long judged =
             assigns ! (addr ! (from ! (fld ! refl (hop ! (look-in ! 35 (sub ! 0 refl (whole !))) (stop !))))) (from ! (stop !)) (init ! 13 refl (tt, tt)) $
             assigns ! (agg ! (and-then ! (load ! (from ! (stop !)) (look ! 13 refl)) (and-then ! (load ! (from ! (fld ! refl (stop !))) (look-in ! 35 (sub ! 1 refl (whole !)))) (no-more !)))) (from ! (stop !)) (init ! 11 refl (tt, (tt, (record { fits = ra .0 }, tt)))) $
@@ -332,7 +332,7 @@ module _ {M : Type 1} (𝓤 : URA M) (H : Heap 𝓤) (A : Atoms 𝓤) (W : Given
             by ! (exits y w′ s z log (ts .1 .0) e-s e-z e-l e-a (judge-given x lent r s z log judged y (ts .1 .0) long put-said))))))))
 
         -- the counts stand: the call of `judge`
-        judges : (vc : Val) → Is C′.the-row c (vc ∷ []) → 6 ≤ length lent → Sq W (Lent ++ Locals (fat fullShare C″.mir l₁₅ 0 vc) (froom A″.mir l₁₆ 0)) (runs C Λ E code-mir.t-5 (atRet E Post))
+        judges : (vc : Val) → Is C′.the-row c (vc ∷ []) → 7 ≤ length lent → Sq W (Lent ++ Locals (fat fullShare C″.mir l₁₅ 0 vc) (froom A″.mir l₁₆ 0)) (runs C Λ E code-mir.t-5 (atRet E Post))
         judges vc is-c long =
             assigns ! (addr ! (from ! (fld ! refl (hop ! (look-in ! 42 (sub ! 0 refl (whole !))) (stop !))))) (from ! (stop !)) (init ! 26 refl (tt, tt)) $
             assigns ! (agg ! (and-then ! (load ! (from ! (stop !)) (look ! 26 refl)) (and-then ! (load ! (from ! (fld ! refl (stop !))) (look-in ! 42 (sub ! 1 refl (whole !)))) (no-more !)))) (from ! (stop !)) (init ! 24 refl (tt, (tt, (record { fits = rs .0 }, tt)))) $
@@ -354,8 +354,8 @@ module _ {M : Type 1} (𝓤 : URA M) (H : Heap 𝓤) (A : Atoms 𝓤) (W : Given
             forget ! 15 refl $ forget ! 17 refl $ forget ! 19 refl $ forget ! 21 refl $ forget ! 23 refl $ forget ! 25 refl $ forget ! 33 refl $
             closes r w (os .1 .1 .1 .1 .1 .0) (os .1 .1 .1 .1 .1 .1 .0) (os .1 .1 .1 .1 .1 .1 .1 .0) e-s e-z e-l long judged))))))))
 
-        -- there is room for six values: the call of `counts`
-        goes-on : 6 ≤ length lent → Sq W (Lent ++ Locals (froom C″.mir l₁₅ 0) (froom A″.mir l₁₆ 0)) (runs C Λ E code-mir.t-4 (atRet E Post))
+        -- there is room for seven values: the call of `counts`
+        goes-on : 7 ≤ length lent → Sq W (Lent ++ Locals (froom C″.mir l₁₅ 0) (froom A″.mir l₁₆ 0)) (runs C Λ E code-mir.t-4 (atRet E Post))
         goes-on long =
             nothing ! $ use1 W (raw (CountsC 𝓤 H A at-mem run .pre to-counts)) goes-counts $
             calls-at ! fm (CountsC 𝓤 H A at-mem run) known-counts to-counts (and-then ! (load ! (from ! (stop !)) (look ! 63 refl)) (and-then ! (load ! (from ! (stop !)) (look ! 61 refl)) (and-then ! (load ! (from ! (stop !)) (look ! 59 refl)) (and-then ! (load ! (from ! (stop !)) (look ! 57 refl)) (and-then ! (load ! (from ! (stop !)) (look ! 55 refl)) (and-then ! (load ! (from ! (stop !)) (look ! 51 refl)) (no-more !))))))) (λ vc.
@@ -375,9 +375,9 @@ module _ {M : Type 1} (𝓤 : URA M) (H : Heap 𝓤) (A : Atoms 𝓤) (W : Given
             (λ short. assigns ! (of-opd ! (lit ! tt)) (from ! (stop !)) (init ! 64 refl (tt, record { fits = lit< tt })) $
             returns-within ! Post refl (look ! 64 refl) $ forget ! 28 refl $ forget ! 30 refl $ forget ! 36 refl $ forget ! 38 refl $ forget ! 40 refl $ forget ! 42 refl $ forget ! 44 refl $ forget ! 46 refl $ forget ! 48 refl $ forget ! 50 refl $ forget ! 52 refl $ forget ! 54 refl $ forget ! 56 refl $ forget ! 58 refl $ forget ! 60 refl $ forget ! 62 refl $ forget ! 64 refl $
             move ! (64 ∷ 65 ∷ []) $ free1 ! $ move ! (62 ∷ 63 ∷ []) $ free1 ! $ move ! (60 ∷ 61 ∷ []) $ free1 ! $ move ! (58 ∷ 59 ∷ []) $ free1 ! $ move ! (56 ∷ 57 ∷ []) $ free1 ! $ move ! (54 ∷ 55 ∷ []) $ free1 ! $ move ! (52 ∷ 53 ∷ []) $ free1 ! $ move ! (50 ∷ 51 ∷ []) $ free1 ! $ move ! (48 ∷ 49 ∷ []) $ free1 ! $ move ! (46 ∷ 47 ∷ []) $ free1 ! $ move ! (44 ∷ 45 ∷ []) $ free1 ! $ move ! (42 ∷ 43 ∷ []) $ free1 ! $ move ! (40 ∷ 41 ∷ []) $ free1 ! $ move ! (38 ∷ 39 ∷ []) $ free1 ! $ move ! (36 ∷ 37 ∷ []) $ free1 ! $ move ! (34 ∷ 35 ∷ []) $ free1 ! $ move ! (32 ∷ 33 ∷ []) $ free1 ! $ move ! (30 ∷ 31 ∷ []) $ free1 ! $ move ! (28 ∷ 29 ∷ []) $ free1 ! $ move ! (26 ∷ 27 ∷ []) $ free1 ! $ move ! (24 ∷ 25 ∷ []) $ free1 ! $ move ! (22 ∷ 23 ∷ []) $ free1 ! $ move ! (20 ∷ 21 ∷ []) $ free1 ! $ move ! (18 ∷ 19 ∷ []) $ free1 ! $ move ! (16 ∷ 17 ∷ []) $ free1 ! $ move ! (14 ∷ 15 ∷ []) $ free1 ! $ move ! (12 ∷ 13 ∷ []) $ free1 ! $ free0 ! $
-            by ! (refuses (ltb→lt (length lent) 6 short)))
+            by ! (refuses (ltb→lt (length lent) 7 short)))
             -- room
-            (λ long. skips ! $ exec ! C Λ E code-mir.t-4 (atRet E Post) $ forget ! 28 refl $ forget ! 30 refl $ goes-on (nltb→le (length lent) 6 long))
+            (λ long. skips ! $ exec ! C Λ E code-mir.t-4 (atRet E Post) $ forget ! 28 refl $ forget ! 30 refl $ goes-on (nltb→le (length lent) 7 long))
 
       walk : ent 𝓤 (onEntry 𝓤 H A self.signature (κ₀, (κ₁, (κ₂, (κ₃, (κ₄, (κ₅, tt)))))) (q₀, (q₁, (q₂, (q₃, (q₄, (q₅, tt)))))) args vals) (WpFn 𝓤 H C Λ code.function flat Post)
       walk =

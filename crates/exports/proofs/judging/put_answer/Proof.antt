@@ -36,8 +36,8 @@ put-two-requires-3 c κs = search needs
 enum-known-said-5 : tie.Need-enum-known-said-5
 enum-known-said-5 c = search needs
 
-put-six-requires : tie.Need-put-six-requires
-put-six-requires c κs = search needs
+put-seven-requires : tie.Need-put-seven-requires
+put-seven-requires c κs = search needs
 
 returns : tie.Need-returns
 unfolding says
@@ -77,7 +77,7 @@ returns-5 : tie.Need-returns-5
 unfolding says
 returns-5 c =
     let a = c .before .before .before .before .before .before .before .before .args in
-    answer-put (a .said) 1 _ (a .answer .now) _ (answer-says _ _ (c .before .before .before .before .before .said5 .given .1)) (c .before .before .put-six .ensures)
+    answer-put (a .said) 1 _ (a .answer .now) _ (answer-says _ _ (c .before .before .before .before .before .said5 .given .1)) (c .before .before .put-seven .ensures)
 
 pub put-answer-spec : {M : Type 1} → statement M
 put-answer-spec =
@@ -92,7 +92,7 @@ put-answer-spec =
     enum-known-said-4
     put-two-requires-3
     enum-known-said-5
-    put-six-requires
+    put-seven-requires
     returns
     same-length
     returns-2

@@ -18,13 +18,13 @@ returns c =
 shl-c : tie.Need-shl-c
 shl-c c = search needs
 
-minus-requires : tie.Need-minus-requires
-minus-requires c κs = search needs
+sign-requires : tie.Need-sign-requires
+sign-requires c κs = search needs
 
 returns-2 : tie.Need-returns-2
 returns-2 c =
     let a = c .before .before .before .args in
-    rw (one-shifted (a .i + a .j) (omega arith)) (weight-plus _ _ _ _ _ (omega arith) (sym (c .before .minus .ensures) ∙ c .if2 .taken))
+    rw (one-shifted (a .i + a .j) (omega arith)) (weight-plus _ _ _ _ _ (omega arith) (sym (c .before .sign .ensures) ∙ c .if2 .taken))
 
 difference-requires : tie.Need-difference-requires
 difference-requires c κs =
@@ -34,8 +34,8 @@ returns-3 : tie.Need-returns-3
 returns-3 c =
     let a = c .before .before .before .before .args in
     (rw (one-shifted (a .i + a .j) (omega arith)) at (c .difference .ensures))
-    ∙ weight-minus _ _ _ _ _ (omega arith) (sym (c .before .before .minus .ensures) ∙ c .before .if2 .left)
+    ∙ weight-minus _ _ _ _ _ (omega arith) (sym (c .before .before .sign .ensures) ∙ c .before .if2 .left)
 
 pub product-weight-spec : {M : Type 1} → statement M
 product-weight-spec =
-    tie.close (tie.spec add-e returns shl-c minus-requires returns-2 difference-requires returns-3)
+    tie.close (tie.spec add-e returns shl-c sign-requires returns-2 difference-requires returns-3)

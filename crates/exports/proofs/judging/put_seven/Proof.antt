@@ -1,10 +1,10 @@
--- `put_six` writes six numbers in front. Assumes nothing.
+-- `put_seven` writes seven numbers in front. Assumes nothing.
 use borrow.Author.Needs.{needs}
 use native.Mathlib.Omega.{arith}
 use lib.ListN.{length-set}
-use Rattle.exports.proofs.Givings.{six-put}
-use Rattle.exports.proofs.judging.put_six.Statement.{statement}
-use Rattle.exports.proofs.judging.put_six.Tie as tie
+use Rattle.exports.proofs.Givings.{seven-put}
+use Rattle.exports.proofs.judging.put_seven.Statement.{statement}
+use Rattle.exports.proofs.judging.put_seven.Tie as tie
 
 slice-write-answer : tie.Need-slice-write-answer
 slice-write-answer c = search needs
@@ -22,7 +22,10 @@ slice-write-answer-5 : tie.Need-slice-write-answer-5
 slice-write-answer-5 c = simp length-set (omega arith)
 
 slice-write-answer-6 : tie.Need-slice-write-answer-6
-slice-write-answer-6 c = search needs
+slice-write-answer-6 c = simp length-set (omega arith)
+
+slice-write-answer-7 : tie.Need-slice-write-answer-7
+slice-write-answer-7 c = search needs
 
 same-length : tie.Need-same-length
 same-length c = search needs
@@ -30,10 +33,10 @@ same-length c = search needs
 returns : tie.Need-returns
 returns c =
     let a = c .args in
-    six-put (a .steps) (a .terms) (a .a) (a .b) (a .got) (a .wanted) (a .answer .now) (c .pre)
+    seven-put (a .steps) (a .terms) (a .a) (a .b) (a .c) (a .got) (a .wanted) (a .answer .now) (c .pre)
 
-pub put-six-spec : {M : Type 1} → statement M
-put-six-spec =
+pub put-seven-spec : {M : Type 1} → statement M
+put-seven-spec =
     tie.close
     (tie.spec
     slice-write-answer
@@ -42,5 +45,6 @@ put-six-spec =
     slice-write-answer-4
     slice-write-answer-5
     slice-write-answer-6
+    slice-write-answer-7
     same-length
     returns)

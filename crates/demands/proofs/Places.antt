@@ -3,8 +3,8 @@ use mathlib.Core.Path.{_≡_, refl, ap, sym, _∙_}
 use mathlib.Core.Bool.{Bool, true, false}
 use mathlib.Core.List.{List}
 use mathlib.Core.Logic.{inl, inr}
-use Prim.Native.Nat.{ℕ, zero, suc, _+_, _*_, _/_, _%_, _^_, _<_}
-use native.Mathlib.Nat.{add-assoc, add-zero, mul-add, mul-assoc, mul-comm, mul-zero, zero-add, one-mul, pow-succ', mod-lt, mod-add-div, div-div-eq-div-mul}
+use Prim.Native.Nat.{ℕ, suc, _+_, _*_, _/_, _%_, _^_, _<_}
+use native.Mathlib.Nat.{add-assoc, add-zero, mul-add, mul-assoc, mul-comm, mul-zero, zero-add, pow-succ', mod-lt, mod-add-div, div-div-eq-div-mul}
 use native.Mathlib.Omega.{arith}
 use lib.Arith.{digits-lt, lt-one}
 use lib.Count.{ones, ones-step, ones-cat}
@@ -13,33 +13,13 @@ use lib.Pow.{pow-pos, pow-add, shr-lt}
 use Rattle.rules.specs.Values.{width, bit}
 use Rattle.rules.specs.Product.{Kind, adds, operand-width, addend-width, operand-a, operand-b, operand-c, first-word, second-word}
 use Rattle.rules.specs.declared.counts.Counts.{Counts}
-use Rattle.rules.proofs.Bits.{bit-first, bit-next}
+use Rattle.rules.proofs.Bits.{bit-first, bit-next, bit-low, bit-high}
 use Rattle.rules.proofs.Places.{Fits}
 use Rattle.demands.specs.Answers.{together, Before}
 use Rattle.demands.specs.Polynomials.{values-for}
 use Rattle.demands.proofs.Absent.{Lacks}
 use Rattle.demands.proofs.Pairs.{pair-set, input-bit}
 use Rattle.demands.proofs.Soonest.{Earlier}
-
--- the low bits of two numbers, one above the other
-bit-low : (n a b i : ℕ) → i < n → bit (a + 2 ^ n * b) i ≡ bit a i
-bit-low zero a b i l = absurd (omega arith)
-bit-low (suc n) a b zero l =
-    let power : 2 ^ suc n * b ≡ 2 * (2 ^ n * b) = rw (pow-succ', mul-assoc) in
-    rw (bit-first (a + 2 ^ suc n * b), bit-first a) (omega arith)
-bit-low (suc n) a b (suc i) l =
-    let power : 2 ^ suc n * b ≡ 2 * (2 ^ n * b) = rw (pow-succ', mul-assoc) in
-    let half : (a + 2 ^ suc n * b) / 2 ≡ a / 2 + 2 ^ n * b = omega arith in
-    rw (bit-next (a + 2 ^ suc n * b) i, half, bit-next a i) (bit-low n (a / 2) b i (omega arith))
-
--- and the high bits
-bit-high : (n a b j : ℕ) → a < 2 ^ n → bit (a + 2 ^ n * b) (n + j) ≡ bit b j
-bit-high zero a b j h = rw (lt-one h, one-mul, zero-add, zero-add)
-bit-high (suc n) a b j h =
-    let power : 2 ^ suc n * b ≡ 2 * (2 ^ n * b) = rw (pow-succ', mul-assoc) in
-    let half : (a + 2 ^ suc n * b) / 2 ≡ a / 2 + 2 ^ n * b = omega arith in
-    let next : suc n + j ≡ suc (n + j) = omega arith in
-    rw (next, bit-next (a + 2 ^ suc n * b) (n + j), half) (bit-high n (a / 2) b j (omega (arith, pow-succ' 2 n)))
 
 -- the set of the variables that are 1 for the operands
 abbrev pub operand-set : ℕ → ℕ → ℕ → ℕ → ℕ

@@ -1,10 +1,14 @@
 -- The bits of a number: the variables that a set holds.
 use mathlib.Core.Path.{_≡_, refl, ap, sym, _∙_}
+use mathlib.Core.Bool.{Bool, true, false}
 use mathlib.Core.Logic.{_⊎_, inl, inr, ⊎-elim}
 use Prim.Native.Nat.{ℕ, zero, suc, _+_, _-_, _*_, _/_, _%_, _^_, _<_, _≤_}
-use native.Mathlib.Nat.{add-zero, zero-add, one-mul, zero-mul, pow-succ', div-div-eq-div-mul}
+use native.Mathlib.Nat.{add-zero, zero-add, one-mul, zero-mul, mul-zero, mul-assoc, pow-succ', div-div-eq-div-mul}
 use native.Mathlib.Omega.{arith}
+use lib.Arith.{lt-one}
+use lib.Dec.{ltb}
 use lib.Pow.{pow-mono, pow-pos}
+use borrow.Author.Tests.{ltb-true, ltb-false}
 use Rattle.rules.specs.Values.{bit}
 use Rattle.rules.specs.Polynomial.{with-variable}
 
@@ -119,3 +123,38 @@ high-variable k (suc n) s h l = ⊎-elim
   where
     top : suc n ≤ k → ⊥
     top a = omega (arith, pow-mono {i = suc n} {j = k} a)
+
+-- the low bits of two numbers, one above the other
+pub bit-low : (n a b i : ℕ) → i < n → bit (a + 2 ^ n * b) i ≡ bit a i
+bit-low zero a b i l = absurd (omega arith)
+bit-low (suc n) a b zero l =
+    let power : 2 ^ suc n * b ≡ 2 * (2 ^ n * b) = rw (pow-succ', mul-assoc) in
+    rw (bit-first (a + 2 ^ suc n * b), bit-first a) (omega arith)
+bit-low (suc n) a b (suc i) l =
+    let power : 2 ^ suc n * b ≡ 2 * (2 ^ n * b) = rw (pow-succ', mul-assoc) in
+    let half : (a + 2 ^ suc n * b) / 2 ≡ a / 2 + 2 ^ n * b = omega arith in
+    rw (bit-next (a + 2 ^ suc n * b) i, half, bit-next a i) (bit-low n (a / 2) b i (omega arith))
+
+-- and the high bits
+pub bit-high : (n a b j : ℕ) → a < 2 ^ n → bit (a + 2 ^ n * b) (n + j) ≡ bit b j
+bit-high zero a b j h = rw (lt-one h, one-mul, zero-add, zero-add)
+bit-high (suc n) a b j h =
+    let power : 2 ^ suc n * b ≡ 2 * (2 ^ n * b) = rw (pow-succ', mul-assoc) in
+    let half : (a + 2 ^ suc n * b) / 2 ≡ a / 2 + 2 ^ n * b = omega arith in
+    let next : suc n + j ≡ suc (n + j) = omega arith in
+    rw (next, bit-next (a + 2 ^ suc n * b) (n + j), half) (bit-high n (a / 2) b j (omega (arith, pow-succ' 2 n)))
+
+-- both: where one is below the other's power, the bits are those of one or of the other
+pub bit-both : (k a b u : ℕ) → a < 2 ^ k → bit (a + 2 ^ k * b) u ≡ bit a u + bit (2 ^ k * b) u
+bit-both k a b u h = go (ltb u k) refl
+  where
+    go : (t : Bool) → ltb u k ≡ t → bit (a + 2 ^ k * b) u ≡ bit a u + bit (2 ^ k * b) u
+    go true e =
+        let low : u < k = ltb-true u k e in
+        let none : bit (2 ^ k * b) u ≡ 0 = rw zero-add at (bit-low k 0 b u low) ∙ bit-none u in
+        rw (bit-low k a b u low, none, add-zero)
+    go false e =
+        let high : k + (u - k) ≡ u = omega (arith, ltb-false u k e) in
+        let none : bit a (k + (u - k)) ≡ 0 = rw (mul-zero, add-zero) at (bit-high k a 0 (u - k) h) ∙ bit-none (u - k) in
+        let all : bit (2 ^ k * b) (k + (u - k)) ≡ bit b (u - k) = rw zero-add at (bit-high k 0 b (u - k) (pow-pos k)) in
+        rw (← high, bit-high k a b (u - k) h, none, all, zero-add)

@@ -13,6 +13,7 @@ pub mod Weighed
 pub mod Terms
 pub mod Gathered
 pub mod AllSets
+pub mod Occurring
 pub mod Trails
 -- outcomes
 pub mod OneOutcome

@@ -9,6 +9,7 @@ pub mod Polynomial
 pub mod Cells
 pub mod Steps
 pub mod Judging
+pub mod Occurrences
 pub mod Text
 pub mod Reading
 pub mod Desk

@@ -25,7 +25,8 @@ use Rattle.gates.specs.Apart.{Apart}
 use Rattle.gates.specs.Masks.{mask-of}
 use Rattle.gates.specs.Rows.{row-of, multiplier}
 use Rattle.merge.specs.Streams.{streams-of, held-in, if-held, multiplier-of, weight, stream, streams}
-use Rattle.poly.specs.Stepping.{holding, variables-of}
+use Rattle.poly.specs.Stepping.{variables-of}
+use Rattle.weave.specs.Weaving.{holding}
 use Rattle.merge.specs.declared.streams.Gate.{Gate}
 use Rattle.gates.proofs.Flipped.{bit-lt, bit-two}
 use Rattle.merge.proofs.Flow.{keep-none, streams-few}

@@ -16,8 +16,7 @@ use Rattle.rules.specs.declared.records.Record.{Record}
 use Rattle.rules.proofs.Terms.{coefficient-append}
 use Rattle.rules.proofs.Gathered.{gather-same, gather-coefficient, unique, under-of}
 use Rattle.weave.specs.Seeking.{Free}
-use Rattle.weave.specs.Weaving.{without}
-use Rattle.poly.specs.Stepping.{holding}
+use Rattle.weave.specs.Weaving.{holding, without}
 use Rattle.gates.proofs.Flipped.{bit-two}
 
 -- a term without v stands in the first part

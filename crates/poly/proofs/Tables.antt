@@ -19,7 +19,8 @@ use Rattle.weave.specs.Written.{Gathered}
 use Rattle.gates.specs.Masks.{mask-of, mask-at}
 use Rattle.gates.specs.Rows.{row-of, Tabled}
 use Rattle.merge.specs.Streams.{streams-of, Held, Masks, stream, streams}
-use Rattle.poly.specs.Stepping.{holding, variables-of, Fit}
+use Rattle.poly.specs.Stepping.{variables-of, Fit}
+use Rattle.weave.specs.Weaving.{holding}
 use Rattle.merge.specs.declared.streams.Gate.{Gate}
 use Rattle.gates.proofs.Replacing.{small-of}
 use Rattle.gates.proofs.Tables.{mask-lt}

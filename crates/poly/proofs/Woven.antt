@@ -19,10 +19,10 @@ use Rattle.rules.proofs.Gathered.{gather-coefficients}
 use Rattle.words.specs.Stored.{decoded}
 use Rattle.words.proofs.Stored.{decoded-take, length-decoded, stride-le}
 use Rattle.weave.specs.Written.{Gathered, Kept}
-use Rattle.weave.specs.Weaving.{without}
+use Rattle.weave.specs.Weaving.{holding, without}
 use Rattle.weave.specs.declared.weaving.Sizes.{Sizes}
 use Rattle.weave.proofs.Falling.{below-front, coefficients-take}
-use Rattle.poly.specs.Stepping.{holding, Fit, Prepared, Both, Together, Stepped}
+use Rattle.poly.specs.Stepping.{Fit, Prepared, Both, Together, Stepped}
 use Rattle.merge.specs.declared.streams.Gate.{Gate}
 use Rattle.poly.proofs.Parts.{holding-front, step-parts, step-more}
 use Rattle.poly.proofs.Restored.{zeros-again, written, part-there, front-zeros, restored}

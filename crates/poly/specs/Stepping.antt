@@ -1,15 +1,14 @@
 -- A step in lent words: what it asks, and what it leaves.
 use mathlib.Core.Path.{_≡_}
 use mathlib.Core.Bool.{Bool, cond, _&&_}
-use mathlib.Core.List.{List, [], _∷_}
+use mathlib.Core.List.{List}
 use Prim.Native.Nat.{ℕ, _+_, _-_, _*_, _^_, _<_, _≤_}
-use lib.Dec.{eqb, leb, ltb}
+use lib.Dec.{leb, ltb}
 use lib.IntN.{ℤ}
 use lib.ListN.{length, take, drop, replicate}
 use Rattle.rules.specs.Judging.{polynomial-words, padded}
 use Rattle.rules.specs.Netlist.{EveryVariable, byte-of}
 use Rattle.rules.specs.Polynomial.{Polynomial, Below, Coefficients}
-use Rattle.rules.specs.Values.{bit}
 use Rattle.rules.specs.declared.records.Record.{Record}
 use Rattle.words.specs.Numbers.{num, words-at}
 use Rattle.words.specs.Stored.{decoded}
@@ -20,11 +19,6 @@ use Rattle.gates.specs.Apart.{Apart}
 use Rattle.gates.specs.Rows.{row-of}
 use Rattle.gates.specs.declared.apart.Variables.{Variables}
 use Rattle.merge.specs.declared.streams.Gate.{Gate}
-
--- the terms that hold v
-unfoldable pub holding : ℕ → Polynomial → Polynomial
-holding v [] = []
-holding v (t ∷ p) = cond (eqb (bit (t .1) v) 1) (t ∷ holding v p) (holding v p)
 
 -- the variables that a gate is over
 abbrev pub variables-of : Gate → Variables

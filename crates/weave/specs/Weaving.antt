@@ -15,6 +15,11 @@ use Rattle.weave.specs.declared.weaving.Sizes.{Sizes}
 use Rattle.weave.specs.declared.weaving.Parts.{Parts}
 use Rattle.weave.specs.declared.weaving.Place.{Place}
 
+-- the terms that hold v
+unfoldable pub holding : ℕ → Polynomial → Polynomial
+holding v [] = []
+holding v (t ∷ p) = cond (eqb (bit (t .1) v) 1) (t ∷ holding v p) (holding v p)
+
 -- the terms that do not hold v
 unfoldable pub without : ℕ → Polynomial → Polynomial
 without v [] = []

@@ -1,0 +1,2 @@
+-- How numbers are marked, bit by bit and word by word.
+pub mod Marking

@@ -1,0 +1,2 @@
+-- What the functions of tally ensure.
+pub mod Marks

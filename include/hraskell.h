@@ -86,6 +86,8 @@ extern "C" {
 #define HRASKELL_STORE_WORDS(m, t) ((size_t)(t) * HRASKELL_TERM_WORDS(m))
 #define HRASKELL_SCRATCH_WORDS(m, t) (4u * HRASKELL_STORE_WORDS(m, t))
 #define HRASKELL_CELL_SCRATCH_WORDS(m, t) (8u * HRASKELL_STORE_WORDS(m, t))
+/* M + 1: the least words of occurrences, for M variables. */
+#define HRASKELL_OCCURRENCE_WORDS(m) ((size_t)(m) + 1u)
 
 /*
  * Reads a netlist text. It makes tables of AND gates only.
@@ -142,6 +144,7 @@ struct hraskell_step {
  *   store          lent for writing: at least T(W + 1) words
  *   scratch        lent for writing: at least 4T(W + 1) words, or 8T(W + 1) for cells
  *   log            lent for writing, the step log: at least one record for each step of the order
+ *   occurrences    lent for writing, how often each variable occurs: at least M + 1 words
  *   answer         lent for writing: at least 7 words, else refused 112, checked first
  *
  * Gives the number of the answer and, in answer,
@@ -155,11 +158,15 @@ struct hraskell_step {
  * the set of variables, v at bit v mod 64 of word v/64), sets falling when
  * read as one number, then zeros to its end; scratch is all zeros to its end;
  * log[k] has the gate of step k + 1 and the terms after it, for each step
- * completed, and other records keep their values.
+ * completed, and other records keep their values; occurrences[v], for v from
+ * 1 to M, is the number of terms of the polynomial in store that hold v,
+ * occurrences[0] the number of all its terms, and words from M + 1 on keep
+ * their values. For R at step 0 no term is held: store and the first M + 1
+ * words of occurrences are zeros.
  *
  * Or gives a refusal: 112 for answer, then 102, 103, 108, 109, 110, 111, and
- * 112 for store or scratch with too few words or log with fewer records than
- * the order has steps, in this order.
+ * 112 for store, scratch or occurrences with too few words or log with fewer
+ * records than the order has steps, in this order.
  */
 uint32_t hraskell_judge(
     uint32_t m, uint32_t i, uint32_t l, uint32_t o, uint32_t a,
@@ -169,6 +176,7 @@ uint32_t hraskell_judge(
     uint64_t *store, size_t store_length,
     uint64_t *scratch, size_t scratch_length,
     struct hraskell_step *log, size_t log_length,
+    uint32_t *occurrences, size_t occurrences_length,
     uint64_t *answer, size_t answer_length);
 
 #ifdef __cplusplus

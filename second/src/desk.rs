@@ -84,6 +84,7 @@ fn answer_of(rules: &Rules, counts: Counts, table: &[u32], reading: Reading) -> 
         store: &mut vec![0; words],
         scratch: &mut vec![0; Records::Gates.most_made() * words],
         log: &mut vec![Step::default(); order.len()],
+        occurrences: &mut vec![0; counts.m as usize + 1],
     };
     let kind = reading.kind();
     let (records, limit) = (Records::Gates, rules.desk.limit);

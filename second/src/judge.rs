@@ -36,6 +36,8 @@ pub struct Run {
     pub answer: Answer,
     /// The last polynomial of at most T terms; none when the start had no room.
     pub held: Option<Polynomial>,
+    /// The polynomial that had no room, where the answer is R. Only bent rules ask for it.
+    pub without_room: Option<Polynomial>,
     /// A record for each step completed.
     pub log: Vec<Step>,
 }
@@ -87,7 +89,7 @@ impl<'a> Question<'a> {
     pub fn run(&self, rules: &Rules) -> Run {
         let start = Polynomial::start(rules, &self.netlist, self.reading);
         if !self.has_room(&rules.judging, &start) {
-            return full_start(&rules.judging, &start);
+            return full_start(&rules.judging, start);
         }
         let mut held = start;
         let mut log = Vec::new();
@@ -105,6 +107,7 @@ impl<'a> Question<'a> {
                 return Run {
                     answer,
                     held: Some(held),
+                    without_room: Some(next),
                     log,
                 };
             }
@@ -117,6 +120,7 @@ impl<'a> Question<'a> {
         Run {
             answer: self.answer(rules, &held, log.len() as u32),
             held: Some(held),
+            without_room: None,
             log,
         }
     }
@@ -162,7 +166,7 @@ impl<'a> Question<'a> {
 }
 
 /// R at step 0: nothing is held.
-fn full_start(rules: &JudgingRules, start: &Polynomial) -> Run {
+fn full_start(rules: &JudgingRules, start: Polynomial) -> Run {
     let terms = if rules.full_start_holds_nothing {
         0
     } else {
@@ -171,6 +175,7 @@ fn full_start(rules: &JudgingRules, start: &Polynomial) -> Run {
     Run {
         answer: Answer::OutOfRoom { step: 0, terms },
         held: None,
+        without_room: Some(start),
         log: Vec::new(),
     }
 }
@@ -253,11 +258,13 @@ pub fn judge(
     store: &mut [u64],
     scratch: &mut [u64],
     log: &mut [Step],
+    occurrences: &mut [u32],
 ) -> Answer {
     let lent = Lent {
         store,
         scratch,
         log,
+        occurrences,
     };
     judge_by(
         &Rules::of_document(),
@@ -281,14 +288,34 @@ pub fn judge_by(
     order: &[u32],
     lent: Lent,
 ) -> Answer {
-    let question = match Question::checked(rules, counts, table, records, kind, limit, order) {
+    let question = Question::checked(rules, counts, table, records, kind, limit, order);
+    let question = match all_checked(rules, counts, question, &lent) {
         Ok(question) => question,
-        Err(number) => return Answer::Refused(number),
+        Err(number) => {
+            if !rules.occurrences.refusal_keeps_them {
+                lent.occurrences.fill(0);
+            }
+            return Answer::Refused(number);
+        }
     };
-    if let Err(number) = lent.is_long_enough(rules, &question) {
-        return Answer::Refused(number);
-    }
     let run = question.run(rules);
-    words::leave(&rules.judging, &question, &run, lent);
+    words::leave(rules, &question, &run, lent);
     run.answer
+}
+
+/// The checks of the question, then 12 for everything that is lent.
+fn all_checked<'a>(
+    rules: &Rules,
+    counts: Counts,
+    question: Result<Question<'a>, u32>,
+    lent: &Lent,
+) -> Result<Question<'a>, u32> {
+    let numbers = lent.has_words_for_occurrences(&rules.occurrences, counts);
+    if !rules.occurrences.are_measured_last {
+        numbers?;
+    }
+    let question = question?;
+    lent.is_long_enough(rules, &question)?;
+    numbers?;
+    Ok(question)
 }

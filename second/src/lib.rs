@@ -15,6 +15,7 @@ pub mod desk;
 pub mod judge;
 mod mutants;
 pub mod netlists;
+mod occurrences;
 pub mod orders;
 pub mod polynomial;
 pub mod random;

@@ -103,6 +103,7 @@ fn judged(made: &Made, reading: Reading, limit: u64, order: &[u32]) -> (Answer, 
     let mut store = vec![0; words];
     let mut scratch = vec![0; made.records.most_made() * words];
     let mut log = vec![Step::default(); order.len()];
+    let mut occurrences = vec![0; made.counts.m as usize + 1];
     let answer = judge(
         made.counts,
         &made.table,
@@ -113,6 +114,7 @@ fn judged(made: &Made, reading: Reading, limit: u64, order: &[u32]) -> (Answer, 
         &mut store,
         &mut scratch,
         &mut log,
+        &mut occurrences,
     );
     log.truncate(steps_completed(&answer));
     (answer, log)

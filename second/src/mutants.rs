@@ -17,6 +17,7 @@ impl Rules {
         all.extend(of_checks());
         all.extend(of_polynomial());
         all.extend(of_lent_words());
+        all.extend(of_occurrences());
         all.extend(of_desk());
         all
     }
@@ -153,6 +154,27 @@ fn of_lent_words() -> Vec<Mutant> {
         bend("judge: first word of a set leads", |r| r.judging.last_word_leads = false),
         bend("judge: store cleared to its least size only", |r| r.judging.store_is_cleared_to_its_end = false),
         bend("judge: scratch not cleared", |r| r.judging.scratch_is_cleared = false),
+    ]
+}
+
+#[rustfmt::skip]
+fn of_occurrences() -> Vec<Mutant> {
+    vec![
+        bend("judge: occurrences not measured", |r| r.occurrences.are_measured = false),
+        bend("judge: M words of occurrences taken", |r| r.occurrences.need_a_word_for_entry_0 = false),
+        bend("judge: occurrences measured before all else", |r| r.occurrences.are_measured_last = false),
+        bend("judge: a refusal clears the occurrences", |r| r.occurrences.refusal_keeps_them = false),
+        bend("judge: entry 0 left as it was", |r| r.occurrences.entry_0_is_written = false),
+        bend("judge: entry 0 counted like a variable", |r| r.occurrences.entry_0_has_all_terms = false),
+        bend("judge: inputs not counted", |r| r.occurrences.inputs_are_counted = false),
+        bend("judge: variable M not counted", |r| r.occurrences.last_variable_is_counted = false),
+        bend("judge: terms that cancel still counted", |r| r.occurrences.cancelled_terms_are_taken_off = false),
+        bend("judge: like terms that meet counted each", |r| r.occurrences.joined_terms_count_once = false),
+        bend("judge: occurrences left as they were at R at step 0", |r| r.occurrences.full_start_is_written = false),
+        bend("judge: terms counted at R at step 0", |r| r.occurrences.full_start_counts_nothing = false),
+        bend("judge: occurrences left as they were at a later R", |r| r.occurrences.full_step_is_written = false),
+        bend("judge: at a later R the terms without room counted", |r| r.occurrences.full_step_counts_what_is_held = false),
+        bend("judge: words past the occurrences cleared", |r| r.occurrences.words_past_are_kept = false),
     ]
 }
 

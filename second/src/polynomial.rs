@@ -17,8 +17,18 @@ pub type Set = Vec<u16>;
 pub struct Polynomial {
     terms: BTreeMap<Set, u64>,
     coefficient_bits: u64,
-    /// How many terms were put in before gathering.
+    gathering: Gathering,
+}
+
+/// What was put in, and what became of it when like terms met. Bent rules ask for it.
+#[derive(Clone, Debug, Default, PartialEq, Eq)]
+struct Gathering {
+    /// How many terms were put in.
     put_in: usize,
+    /// The sets of terms that met a like one and stayed, once for each time.
+    joined: Vec<Set>,
+    /// The sets of terms that met a like one and went with it, once for each time.
+    cancelled: Vec<Set>,
 }
 
 impl Polynomial {
@@ -30,7 +40,7 @@ impl Polynomial {
             } else {
                 64
             }),
-            put_in: 0,
+            gathering: Gathering::default(),
         }
     }
 
@@ -74,7 +84,7 @@ impl Polynomial {
         let joins = record.squares_join(rules);
         let mut next = Polynomial {
             terms: BTreeMap::new(),
-            put_in: 0,
+            gathering: Gathering::default(),
             ..*self
         };
         for (set, &coefficient) in &self.terms {
@@ -100,13 +110,16 @@ impl Polynomial {
 
     /// Gathers one term in; a coefficient that becomes zero takes its term away.
     fn add(&mut self, set: Set, coefficient: u64) {
-        self.put_in += 1;
+        self.gathering.put_in += 1;
         let before = self.terms.get(&set).copied().unwrap_or(0);
         let after = before.wrapping_add(coefficient) & self.coefficient_bits;
-        if after == 0 {
-            self.terms.remove(&set);
-        } else {
+        if after != 0 {
+            if before != 0 {
+                self.gathering.joined.push(set.clone());
+            }
             self.terms.insert(set, after);
+        } else if self.terms.remove(&set).is_some() {
+            self.gathering.cancelled.push(set);
         }
     }
 
@@ -117,7 +130,22 @@ impl Polynomial {
 
     /// How many terms there were before gathering.
     pub fn ungathered_count(&self) -> usize {
-        self.put_in
+        self.gathering.put_in
+    }
+
+    /// The sets of the gathered terms.
+    pub fn sets(&self) -> impl Iterator<Item = &Set> {
+        self.terms.keys()
+    }
+
+    /// The sets that met a like one in gathering and stayed, once for each time.
+    pub fn joined_sets(&self) -> &[Set] {
+        &self.gathering.joined
+    }
+
+    /// The sets that met a like one in gathering and went with it, once for each time.
+    pub fn cancelled_sets(&self) -> &[Set] {
+        &self.gathering.cancelled
     }
 
     /// The gathered terms, sets rising.

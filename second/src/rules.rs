@@ -1,4 +1,4 @@
-//! The rules of document 01 and of sections 5 and 12 of document 02 as values, and the numbers of refusal.
+//! The rules of document 01 and of sections 5, 6 and 12 of document 02 as values, and the numbers of refusal.
 //!
 //! Every field states one rule, and `of_document` gives it the document's
 //! value. The rest of the program asks these fields instead of writing the
@@ -27,7 +27,7 @@ pub const KIND: u32 = 9;
 pub const LIMIT: u32 = 10;
 /// Order too long, or names something that is no gate.
 pub const ORDER: u32 = 11;
-/// Store, scratch or log too short.
+/// Store, scratch, log or occurrences too short.
 pub const LENT_SHORT: u32 = 12;
 /// Desk program only: input over 4,096 bytes, or M > 127.
 pub const DESK: u32 = 13;
@@ -40,6 +40,7 @@ pub struct Rules {
     pub cells: CellRules,
     pub adding: AddingRules,
     pub judging: JudgingRules,
+    pub occurrences: OccurrenceRules,
     pub desk: DeskRules,
 }
 
@@ -142,6 +143,26 @@ pub struct JudgingRules {
     pub scratch_is_cleared: bool,
 }
 
+/// How the variables of the polynomial held are counted, and what that asks of and leaves in its lent words.
+#[derive(Clone, Copy, Debug, PartialEq, Eq)]
+pub struct OccurrenceRules {
+    pub are_measured: bool,
+    pub need_a_word_for_entry_0: bool,
+    pub are_measured_last: bool,
+    pub refusal_keeps_them: bool,
+    pub entry_0_is_written: bool,
+    pub entry_0_has_all_terms: bool,
+    pub inputs_are_counted: bool,
+    pub last_variable_is_counted: bool,
+    pub cancelled_terms_are_taken_off: bool,
+    pub joined_terms_count_once: bool,
+    pub full_start_is_written: bool,
+    pub full_start_counts_nothing: bool,
+    pub full_step_is_written: bool,
+    pub full_step_counts_what_is_held: bool,
+    pub words_past_are_kept: bool,
+}
+
 /// What the desk program takes, in what order it checks, and how it prints.
 #[derive(Clone, Copy, Debug, PartialEq, Eq)]
 pub struct DeskRules {
@@ -170,6 +191,7 @@ impl Rules {
             cells: CellRules::of_document(),
             adding: AddingRules::of_document(),
             judging: JudgingRules::of_document(),
+            occurrences: OccurrenceRules::of_document(),
             desk: DeskRules::of_document(),
         }
     }
@@ -282,6 +304,28 @@ impl JudgingRules {
             last_word_leads: true,
             store_is_cleared_to_its_end: true,
             scratch_is_cleared: true,
+        }
+    }
+}
+
+impl OccurrenceRules {
+    const fn of_document() -> OccurrenceRules {
+        OccurrenceRules {
+            are_measured: true,
+            need_a_word_for_entry_0: true,
+            are_measured_last: true,
+            refusal_keeps_them: true,
+            entry_0_is_written: true,
+            entry_0_has_all_terms: true,
+            inputs_are_counted: true,
+            last_variable_is_counted: true,
+            cancelled_terms_are_taken_off: true,
+            joined_terms_count_once: true,
+            full_start_is_written: true,
+            full_start_counts_nothing: true,
+            full_step_is_written: true,
+            full_step_counts_what_is_held: true,
+            words_past_are_kept: true,
         }
     }
 }

@@ -1,8 +1,10 @@
-//! The words of store, scratch and log: how many are needed, and what they hold afterwards.
+//! The words of store, scratch, log and occurrences: how many are needed, and what they hold afterwards.
 
 use crate::judge::{Question, Run};
+use crate::occurrences::occurrences_after;
 use crate::polynomial::{Polynomial, Set};
-use crate::rules::{self, JudgingRules, Rules};
+use crate::rules::{self, JudgingRules, OccurrenceRules, Rules};
+use crate::table::Counts;
 
 /// A record of the log: the gate of a step, and the terms after it. Its layout is that of a C host.
 #[derive(Clone, Copy, Debug, Default, PartialEq, Eq)]
@@ -17,10 +19,25 @@ pub struct Lent<'a> {
     pub store: &'a mut [u64],
     pub scratch: &'a mut [u64],
     pub log: &'a mut [Step],
+    pub occurrences: &'a mut [u32],
 }
 
 impl Lent<'_> {
-    /// Refusal 12.
+    /// Refusal 12 for the occurrences.
+    pub fn has_words_for_occurrences(
+        &self,
+        rules: &OccurrenceRules,
+        counts: Counts,
+    ) -> Result<(), u32> {
+        let needed = counts.m as usize + usize::from(rules.need_a_word_for_entry_0);
+        if self.occurrences.len() >= needed || !rules.are_measured {
+            Ok(())
+        } else {
+            Err(rules::LENT_SHORT)
+        }
+    }
+
+    /// Refusal 12 for store, scratch and log.
     pub fn is_long_enough(&self, rules: &Rules, question: &Question) -> Result<(), u32> {
         let needed = store_words(question);
         let measured = question.netlist.records.measured_in_scratch(&rules.cells);
@@ -41,7 +58,9 @@ fn store_words(question: &Question) -> usize {
 }
 
 /// Leaves in the lent words what the run ended with.
-pub fn leave(rules: &JudgingRules, question: &Question, run: &Run, lent: Lent) {
+pub fn leave(rules: &Rules, question: &Question, run: &Run, lent: Lent) {
+    leave_occurrences(&rules.occurrences, question, run, lent.occurrences);
+    let rules = &rules.judging;
     let cleared = if rules.store_is_cleared_to_its_end {
         lent.store.len()
     } else {
@@ -72,6 +91,20 @@ fn leave_log(rules: &JudgingRules, run: &Run, log: &mut [Step]) {
                 terms: gate,
             }
         };
+    }
+}
+
+/// A number in each of the first M + 1 words; the other words keep their values.
+fn leave_occurrences(rules: &OccurrenceRules, question: &Question, run: &Run, words: &mut [u32]) {
+    let Some(numbers) = occurrences_after(rules, question.netlist.counts, run) else {
+        return;
+    };
+    if !rules.words_past_are_kept {
+        words.fill(0);
+    }
+    let first = usize::from(!rules.entry_0_is_written);
+    for (word, number) in words.iter_mut().zip(numbers).skip(first) {
+        *word = number;
     }
 }
 

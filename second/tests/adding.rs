@@ -6,7 +6,7 @@ use common::{answered, holds, judged, records, wrong_operands, DOCUMENT};
 use second::brute::least_wrong_operands;
 use second::cases::adding::{self, one_bit, only_c, wrong_by_a_or_both_of_c, wrong_by_two_pairs};
 use second::cases::judgements::JudgeCase;
-use second::cases::{marked_steps, marked_words};
+use second::cases::{marked_numbers, marked_steps, marked_words};
 use second::netlists::Made;
 use second::orders::falling;
 use second::Answer::{self, Differs, Equal, OutOfRoom, Refused, Unfinished};
@@ -215,6 +215,7 @@ fn refusal(inputs: u32, outputs: usize, kind: u32) -> u32 {
     assert_eq!(seen.store, marked_words(case.store_words));
     assert_eq!(seen.scratch, marked_words(case.scratch_words));
     assert_eq!(seen.log, marked_steps(0));
+    assert_eq!(seen.occurrences, marked_numbers(case.occurrence_words));
     number
 }
 

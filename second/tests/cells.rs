@@ -5,7 +5,7 @@ mod common;
 use common::{answered, holds, judged, records, DOCUMENT};
 use second::cases::cells::{and_cell, cell, eight_of_one};
 use second::cases::judgements::{random_netlist, random_order, JudgeCase};
-use second::cases::{marked_steps, marked_words};
+use second::cases::{marked_numbers, marked_steps, marked_words};
 use second::cell_netlists::gates_as_cells;
 use second::cells::Cell;
 use second::cells_file::read_cells;
@@ -175,6 +175,7 @@ fn gates_turned_into_cells_are_judged_the_same() {
         assert_eq!(by_gates.answer, by_cells.answer);
         assert_eq!(by_gates.store, by_cells.store);
         assert_eq!(by_gates.log, by_cells.log);
+        assert_eq!(by_gates.occurrences, by_cells.occurrences);
         let (x, y) = (random.word(), random.word());
         assert_eq!(gates.word_at(x, y), cells.word_at(x, y));
         assert_eq!(
@@ -235,6 +236,7 @@ fn refusal(case: &JudgeCase) -> u32 {
     assert_eq!(seen.store, marked_words(case.store_words));
     assert_eq!(seen.scratch, marked_words(case.scratch_words));
     assert_eq!(seen.log, marked_steps(case.log_records));
+    assert_eq!(seen.occurrences, marked_numbers(case.occurrence_words));
     number
 }
 
@@ -246,7 +248,7 @@ fn judging_cells_refuses_by_2_3_and_8_to_12_in_order() {
     let right = JudgeCase::new(&and_cell(&[6, 0]), 0, 128, vec![3]);
     assert_eq!((right.store_words, right.scratch_words), (256, 2_048));
     assert_eq!(refusal(&right), 0);
-    let things: [WrongThing; 14] = [
+    let things: [WrongThing; 15] = [
         (2, |case| case.counts.l = 1),
         (3, |case| case.table.truncate(5)),
         (8, |case| case.table[1] = 8),
@@ -261,6 +263,7 @@ fn judging_cells_refuses_by_2_3_and_8_to_12_in_order() {
         (12, |case| case.scratch_words = 2_047),
         (12, |case| case.scratch_words = 1_024),
         (12, |case| case.log_records = 0),
+        (12, |case| case.occurrence_words = 3),
     ];
     for (first, one) in &things {
         for (second, other) in &things {

@@ -4,7 +4,7 @@ mod common;
 
 use common::{answered, holds, judged, records, DOCUMENT};
 use second::cases::judgements::{all_false, and_netlist, eleven_bits, two_bits, JudgeCase};
-use second::cases::{marked_steps, marked_words};
+use second::cases::{marked_numbers, marked_steps, marked_words};
 use second::netlists::{random_sound, Made};
 use second::random::Random;
 use second::Answer::{Differs, Equal, OutOfRoom, Refused, Unfinished};
@@ -294,6 +294,7 @@ fn a_refusal_changes_no_lent_word() {
     assert_eq!(seen.store, marked_words(256));
     assert_eq!(seen.scratch, marked_words(1_023));
     assert_eq!(seen.log, marked_steps(1));
+    assert_eq!(seen.occurrences, marked_numbers(4));
 }
 
 #[test]

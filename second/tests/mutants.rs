@@ -3,7 +3,7 @@
 mod common;
 
 use common::DOCUMENT;
-use second::cases::{desks, judgements, pairs, texts};
+use second::cases::{desks, judgements, occurrences, pairs, texts};
 use second::random::Random;
 use second::{desk_by, Records, Rules};
 
@@ -50,7 +50,8 @@ fn mutants_of_the_evaluator_are_caught() {
 
 #[test]
 fn mutants_of_judging_are_caught() {
-    let cases = with_random_of_both(judgements::edges(), judgements::random);
+    let edges = with_random_of_both(judgements::edges(), judgements::random);
+    let cases = with_random_of_both(edges, occurrences::random);
     all_are_caught("judge", cases, |case, rules| case.seen(rules));
 }
 

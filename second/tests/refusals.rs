@@ -230,6 +230,7 @@ fn judged(case: &JudgeCase) -> u32 {
             assert_eq!(seen.store, marked_words(case.store_words));
             assert_eq!(seen.scratch, marked_words(case.scratch_words));
             assert_eq!(seen.log, marked_steps(case.log_records));
+            assert_eq!(seen.occurrences, marked_numbers(case.occurrence_words));
             number
         }
         answer => {
@@ -263,6 +264,8 @@ fn wrong_things() -> Vec<WrongThing> {
         (12, |case| case.store_words = 255),
         (12, |case| case.scratch_words = 1_023),
         (12, |case| case.log_records = 0),
+        (12, |case| case.occurrence_words = 3),
+        (12, |case| case.occurrence_words = 0),
     ]
 }
 

@@ -126,7 +126,7 @@ module _ (c : Counts) (table : List ℕ) (kind : ℕ) where
   module _ (limit : ℕ) (order : List ℕ) (lent : Lent) where
     -- the first of all checks
     abbrev refused-by : ℕ
-    refused-by = first (judge-checks c table kind limit order (lent .store) (lent .scratch) (lent .log))
+    refused-by = first (judge-checks c table kind limit order (lent .store) (lent .scratch) (lent .log) (lent .occurrences))
 
     -- where the block is refused, no more is asked
     pub block-first : (first (block-checks c table kind) ≡ 0 → ⊥) → first (block-checks c table kind) ≡ refused-by

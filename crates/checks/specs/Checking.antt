@@ -23,5 +23,5 @@ unfoldable pub run-checks : Counts → ℕ → List ℕ → Lent → List (ℕ �
 run-checks c limit order lent =
     (10, terms-wrong limit)
     ∷ (11, order-wrong c order)
-    ∷ (12, lent-short c limit (length order) (lent .store) (lent .scratch) (lent .log))
+    ∷ (12, lent-short c limit (length order) (lent .store) (lent .scratch) (lent .log) (lent .occurrences))
     ∷ []

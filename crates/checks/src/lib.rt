@@ -25,6 +25,7 @@ pub struct Lent {
     pub store: usize,
     pub scratch: usize,
     pub log: usize,
+    pub occurrences: usize,
 }
 
 // Whether the kind is unknown, or the block has not the inputs or the outputs of the kind.
@@ -61,16 +62,17 @@ fn most_made(records: RecordKind) -> usize
     }
 }
 
-// Whether store, scratch or log is too short for so many terms and steps.
+// Whether store, scratch, log or occurrences is too short for so many terms and steps.
 fn lent_short(c: Counts, limit: usize, steps: usize, lent: Lent) -> bool
     requires { ⌜ (counts-right c ≡ true) × (limit ≤ most-terms) ⌝ }
-    ensures { λ r. ⌜ r ≡ lent-short c limit steps (lent .store) (lent .scratch) (lent .log) ⌝ }
+    ensures { λ r. ⌜ r ≡ lent-short c limit steps (lent .store) (lent .scratch) (lent .log) (lent .occurrences) ⌝ }
 {
     let records = c.records;
     let width = (c.m / 64 + 1) as usize + 1;
     (lent.store < limit * width)
         | (lent.scratch < most_made(records) * limit * width)
         | (lent.log < steps)
+        | (lent.occurrences < c.m as usize + 1)
 }
 
 // The number of the first refusal of counts, table and kind, or 0.
@@ -114,7 +116,7 @@ fn run_refused(c: Counts, limit: u64, order: &[u32], lent: Lent) -> u32
 
 // The number of the first refusal, or 0.
 pub fn refused(c: Counts, table: &[u32], kind: u32, limit: u64, order: &[u32], lent: Lent) -> u32
-    ensures { λ r. ⌜ r ≡ first (judge-checks c (now (table .entry)) kind limit (now (order .entry)) (lent .store) (lent .scratch) (lent .log)) ⌝ }
+    ensures { λ r. ⌜ r ≡ first (judge-checks c (now (table .entry)) kind limit (now (order .entry)) (lent .store) (lent .scratch) (lent .log) (lent .occurrences)) ⌝ }
 {
     let number = block_refused(c, table, kind);
     if number != 0 {

@@ -35,6 +35,7 @@ handed kind c table =
       store = [];
       scratch = [];
       log = [];
+      occurrences = [];
     }
 
 -- the desk's judging refuses with the first condition that holds

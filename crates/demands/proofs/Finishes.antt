@@ -50,10 +50,10 @@ honest-finishes x steps terms h answered =
     let due = unfinished-exact x (Unfinished steps terms) answered .0 (steps, terms, refl) in
     let c = x .counts in
     let v = due .1 .0 in
-    let above : c .i < v = due .1 .2 in
-    let below : v ≤ c .m = due .1 .3 in
+    let above : c .i < v = due .1 .1 in
+    let below : v ≤ c .m = due .1 .2 in
     let sums = right-counts c (passed x (due .0 .0) .counts) .variables in
     let own : c .i + 1 + (v - (c .i + 1)) ≡ v = omega arith in
     let p = start (kind-of (x .kind)) c (x .table) in
     let none = gate-absent (modulus (kind-of (x .kind)) c) c (x .table) (x .order) p h (v - (c .i + 1)) (omega arith) in
-    omega (arith, all-at (λ (t : Term). Lacks v (t .1)) (last x) (0, 0) (bit-none v) (rw own at none) (due .1 .1), due .1 .5)
+    omega (arith, all-at (λ (t : Term). Lacks v (t .1)) (last x) (0, 0) (bit-none v) (rw own at none) (due .1 .3 .0), due .1 .3 .2)

@@ -36,6 +36,7 @@ pub mod Verdicts
 pub mod Soonest
 pub mod Right
 pub mod Room
+pub mod Entries
 pub mod Honest
 pub mod Finishes
 pub mod Decides

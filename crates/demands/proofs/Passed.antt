@@ -35,7 +35,7 @@ pub record Passed (x : Inputs) : Type 0 where
   pub limit : terms-wrong (x .limit) ≡ false
   pub steps : steps-wrong (length (x .order)) ≡ false
   pub gates : every (is-gate (x .counts)) (x .order) ≡ true
-  pub lent : lent-short (x .counts) (x .limit) (length (x .order)) (length (x .store)) (length (x .scratch)) (length (x .log)) ≡ false
+  pub lent : lent-short (x .counts) (x .limit) (length (x .order)) (length (x .store)) (length (x .scratch)) (length (x .log)) (length (x .occurrences)) ≡ false
 
 -- no check with a number above 0 has a condition that holds
 pub none-holds : (k : ℕ) (t : Bool) (later : List (ℕ × Bool)) → first ((suc k, t) ∷ later) ≡ 0 → (t ≡ false) × (first later ≡ 0)

@@ -7,7 +7,7 @@ use Prim.Native.Nat.{ℕ, zero, suc, _<_}
 use native.Mathlib.Omega.{arith}
 use Rattle.rules.specs.Says.{Says, refuses, answers, first, refuse-or}
 use Rattle.rules.specs.Values.{evaluate-checks, evaluating, shown}
-use Rattle.rules.specs.Judging.{kept-or, judge-checks, checks, refusal, judging, store-after, scratch-after, log-after}
+use Rattle.rules.specs.Judging.{kept-or, judge-checks, checks, refusal, judging, store-after, scratch-after, log-after, occurrences-after}
 use Rattle.rules.proofs.All.{All}
 use Rattle.demands.specs.Refusals.{First, EvaluateRefusedExact, JudgeRefusedExact, JudgeRefusalKeeps}
 use Rattle.demands.proofs.Passed.{apart}
@@ -64,15 +64,15 @@ evaluate-refused-exact c table a b r e k =
 -- so does the judge
 pub judge-refused-exact : JudgeRefusedExact
 unfolding judging refusal checks judge-checks
-judge-refused-exact x r store scratch log j k =
+judge-refused-exact x r store scratch log occurrences j k =
     let exact = refused-exact (checks x) (verdict-on x) (omega arith) (λ i h. verdict-answers x i (sym h)) k in
     ((λ h. exact .0 (sym (j .said) ∙ h)), (λ f. j .said ∙ exact .1 f))
 
 -- and then every lent word is as it was
 pub judge-refusal-keeps : JudgeRefusalKeeps
-unfolding store-after scratch-after log-after kept-or
-judge-refusal-keeps x r store scratch log j k h = go (refusal x) refl
+unfolding store-after scratch-after log-after occurrences-after kept-or
+judge-refusal-keeps x r store scratch log occurrences j k h = go (refusal x) refl
   where
-    go : (n : ℕ) → refusal x ≡ n → (store ≡ x .store) × (scratch ≡ x .scratch) × (log ≡ x .log)
+    go : (n : ℕ) → refusal x ≡ n → (store ≡ x .store) × (scratch ≡ x .scratch) × (log ≡ x .log) × (occurrences ≡ x .occurrences)
     go zero e = absurd (verdict-answers x k (sym h ∙ j .said ∙ judging-passed x e))
-    go (suc n) e = (j .store-words ∙ rw e refl, j .scratch-words ∙ rw e refl, j .log-records ∙ rw e refl)
+    go (suc n) e = (j .store-words ∙ rw e refl, j .scratch-words ∙ rw e refl, j .log-records ∙ rw e refl, j .occurrence-words ∙ rw e refl)

@@ -6,8 +6,8 @@ use native.Mathlib.Omega.{arith}
 use lib.ListN.{getD}
 use Rattle.rules.specs.Says.{answers, says}
 use Rattle.rules.specs.Bench.{right}
-use Rattle.rules.specs.Judging.{judging, store-after, log-after}
-use Rattle.demands.specs.StandIns.{handed, and-block, p1, p3, p6, p10, first-terms, NotRefuseEverything, NotAlwaysEqual, NotTouchNothing, NotReduceAtOnce, NotInventTheCount}
+use Rattle.rules.specs.Judging.{judging, store-after, log-after, occurrences-after}
+use Rattle.demands.specs.StandIns.{handed, and-block, p1, p3, p6, p10, first-terms, NotRefuseEverything, NotAlwaysEqual, NotTouchNothing, NotReduceAtOnce, NotCountAtTheStart, NotInventTheOccurrences, NotInventTheCount}
 
 -- what the judge says of P1, P3 and P6
 p1-says : judging p1 ≡ answers 0 (1 ∷ 0 ∷ [])
@@ -31,17 +31,26 @@ p10-logs : first-terms (log-after p10) ≡ 10
 unfolding right handed p10
 p10-logs = refl
 
+-- the occurrences of P1 and of P6 at exit
+p1-counts : occurrences-after p1 ≡ 0 ∷ 0 ∷ 0 ∷ 0 ∷ []
+unfolding right handed and-block p1
+p1-counts = refl
+
+p6-counts : occurrences-after p6 ≡ 2 ∷ 1 ∷ 1 ∷ 1 ∷ []
+unfolding right handed and-block p6
+p6-counts = refl
+
 -- refusing everything is shut out
 pub not-refuse-everything : NotRefuseEverything
 unfolding says
-not-refuse-everything number store scratch log j =
+not-refuse-everything number store scratch log occurrences j =
     let e = j .said ∙ p1-says in
     let z : _≡_ {A = ℕ} 0 1 = cc in omega arith
 
 -- always E is shut out
 pub not-always-equal : NotAlwaysEqual
 unfolding says
-not-always-equal steps held store scratch log j =
+not-always-equal steps held store scratch log occurrences j =
     let e = j .said ∙ p3-says in
     let z : _≡_ {A = ℕ} 0 1 = cc in omega arith
 
@@ -52,13 +61,23 @@ not-touch-nothing r j = let e : _≡_ {A = ℕ} 77 2 = ap (λ (list : List ℕ).
 
 -- reducing wholly in the first step is shut out
 pub not-reduce-at-once : NotReduceAtOnce
-not-reduce-at-once r store scratch log none j =
+not-reduce-at-once r store scratch log occurrences none j =
     let e : first-terms log ≡ 10 = ap first-terms (j .log-records) ∙ p10-logs in
     omega arith
+
+-- counting the occurrences at the start alone is shut out
+pub not-count-at-the-start : NotCountAtTheStart
+not-count-at-the-start r store scratch log j =
+    let e : _≡_ {A = ℕ} 2 0 = ap (λ (list : List ℕ). getD list 0 0) (j .occurrence-words ∙ p1-counts) in
+    omega arith
+
+-- invented occurrences are shut out
+pub not-invent-the-occurrences : NotInventTheOccurrences
+not-invent-the-occurrences r store scratch log occurrences other j = other (j .occurrence-words ∙ p6-counts)
 
 -- an invented count is shut out
 pub not-invent-the-count : NotInventTheCount
 unfolding says
-not-invent-the-count steps held store scratch log other j =
+not-invent-the-count steps held store scratch log occurrences other j =
     let e = j .said ∙ p6-says in
     let z : held ≡ 2 = cc in other z

@@ -71,7 +71,7 @@ module _ (x : Inputs) where
   verdict-room h = rw (le-leb (room x) (length (x .order)) h)
 
   -- all have: the last one is held
-  held-last : length (x .order) < room x → held (x .limit) (polynomials-on x) ≡ last x
+  pub held-last : length (x .order) < room x → held (x .limit) (polynomials-on x) ≡ last x
   unfolding held after
   held-last h =
       let e : room x ≡ suc (length (x .order)) = omega (arith, roomy-le (x .limit) (polynomials-on x), length-polynomials) in
@@ -127,3 +127,11 @@ module _ (x : Inputs) where
   answer-means k numbers h =
       let said = answered (refusal x) (verdict-on x) k numbers h in
       (said .0, verdict-means (answers k numbers) (said .1))
+
+  -- an answer that is not R says that all have room
+  pub answer-roomy : (k : ℕ) (numbers : List ℕ) → answers k numbers ≡ judging x → (k ≡ 2 → ⊥) → length (x .order) < room x
+  unfolding judging
+  answer-roomy k numbers h other =
+      let said = answered (refusal x) (verdict-on x) k numbers h .1 in
+      let late : room x ≤ length (x .order) → ⊥ = λ l. let e = said ∙ verdict-room l in let same : k ≡ 2 = cc in other same in
+      omega arith

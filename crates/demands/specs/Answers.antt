@@ -23,7 +23,8 @@ pub record Answered (x : Inputs) (r : Answer) : Type 0 where
   pub store : List ℕ
   pub scratch : List ℕ
   pub log : List StepRecord
-  pub judged : Judged x r store scratch log
+  pub occurrences : List ℕ
+  pub judged : Judged x r store scratch log occurrences
 
 -- n, the bits of a and of b
 abbrev pub bits : Inputs → ℕ
@@ -87,9 +88,13 @@ RoomExact =
     ↔ ((refusal x ≡ 0) × (k ≤ length (x .order)) × (x .limit < length (following x k)) × ((j : ℕ) → j < k → Room x j)
     × (((k ≡ 0) × (terms ≡ 0)) ⊎ ((j : ℕ) × (k ≡ j + 1) × (terms ≡ length (following x j)))))
 
+-- variable v occurs in a polynomial: some term holds it
+abbrev pub Occurs : ℕ → Polynomial → Type 0
+Occurs v p = (i : ℕ) × (i < length p) × (bit (getD p i (0, 0) .1) v ≡ 1)
+
 -- a gate variable occurs in a polynomial
 abbrev pub GateOccurs : Counts → Polynomial → Type 0
-GateOccurs c p = (v i : ℕ) × (c .i < v) × (v ≤ c .m) × (i < length p) × (bit (getD p i (0, 0) .1) v ≡ 1)
+GateOccurs c p = (v : ℕ) × (c .i < v) × (v ≤ c .m) × Occurs v p
 
 -- nothing is refused, and there is room after every step
 abbrev pub Roomy : Inputs → Type 0

@@ -2,5 +2,6 @@
 pub mod Refusals
 pub mod Netlists
 pub mod Answers
+pub mod Entries
 pub mod Polynomials
 pub mod StandIns

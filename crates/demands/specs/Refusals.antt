@@ -31,15 +31,17 @@ First (check ∷ later) k = ((check .0 ≡ k) × (check .1 ≡ true)) ⊎ ((chec
 -- the judge refuses with k exactly when condition k holds and none before it
 abbrev pub JudgeRefusedExact : Type 0
 JudgeRefusedExact =
-    (x : Inputs) (r : Answer) (store scratch : List ℕ) (log : List StepRecord) → Judged x r store scratch log
+    (x : Inputs) (r : Answer) (store scratch : List ℕ) (log : List StepRecord) (occurrences : List ℕ)
+    → Judged x r store scratch log occurrences
     → (k : ℕ) → (says r ≡ refuses k) ↔ First (checks x) k
 
 -- then every lent word is as it was
 abbrev pub JudgeRefusalKeeps : Type 0
 JudgeRefusalKeeps =
-    (x : Inputs) (r : Answer) (store scratch : List ℕ) (log : List StepRecord) → Judged x r store scratch log
+    (x : Inputs) (r : Answer) (store scratch : List ℕ) (log : List StepRecord) (occurrences : List ℕ)
+    → Judged x r store scratch log occurrences
     → (k : ℕ) → says r ≡ refuses k
-    → (store ≡ x .store) × (scratch ≡ x .scratch) × (log ≡ x .log)
+    → (store ≡ x .store) × (scratch ≡ x .scratch) × (log ≡ x .log) × (occurrences ≡ x .occurrences)
 
 -- the evaluator refuses with k exactly when condition k holds and none before it; it is lent nothing that it may change
 abbrev pub EvaluateRefusedExact : Type 0

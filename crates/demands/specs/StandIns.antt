@@ -1,7 +1,7 @@
 -- Programs that do not do the work, each shut out by a row of the bench sheet: its outcome is not permitted.
 use mathlib.Core.Path.{_≡_}
 use mathlib.Core.List.{List, [], _∷_, map}
-use Prim.Native.Nat.{ℕ}
+use Prim.Native.Nat.{ℕ, _+_}
 use lib.ListN.{getD, replicate}
 use Rattle.rules.specs.Judging.{Inputs, Judged}
 use Rattle.rules.specs.declared.answers.Answer.{Answer}
@@ -22,6 +22,7 @@ handed c table order steps =
       store = replicate 256 77;
       scratch = replicate 1024 77;
       log = replicate steps (record { gate = 77; terms = 77 });
+      occurrences = replicate (c .m + 1) 77;
     }
 
 -- AND with these two outputs
@@ -49,16 +50,18 @@ p10 =
 -- refusing everything
 abbrev pub NotRefuseEverything : Type 0
 NotRefuseEverything =
-    (number : ℕ) (store scratch : List ℕ) (log : List StepRecord) → Judged p1 (Refused number) store scratch log → ⊥
+    (number : ℕ) (store scratch : List ℕ) (log : List StepRecord) (occurrences : List ℕ)
+    → Judged p1 (Refused number) store scratch log occurrences → ⊥
 
 -- always E
 abbrev pub NotAlwaysEqual : Type 0
 NotAlwaysEqual =
-    (steps held : ℕ) (store scratch : List ℕ) (log : List StepRecord) → Judged p3 (Equal steps held) store scratch log → ⊥
+    (steps held : ℕ) (store scratch : List ℕ) (log : List StepRecord) (occurrences : List ℕ)
+    → Judged p3 (Equal steps held) store scratch log occurrences → ⊥
 
 -- touching nothing
 abbrev pub NotTouchNothing : Type 0
-NotTouchNothing = (r : Answer) → Judged p3 r (p3 .store) (p3 .scratch) (p3 .log) → ⊥
+NotTouchNothing = (r : Answer) → Judged p3 r (p3 .store) (p3 .scratch) (p3 .log) (p3 .occurrences) → ⊥
 
 -- the terms after the first step, as a log has them
 abbrev pub first-terms : List StepRecord → ℕ
@@ -67,10 +70,22 @@ first-terms log = getD (map (λ (s : StepRecord). s .terms) log) 0 0
 -- reducing wholly in the first step and logging the rest: no terms are left after it
 abbrev pub NotReduceAtOnce : Type 0
 NotReduceAtOnce =
-    (r : Answer) (store scratch : List ℕ) (log : List StepRecord) → first-terms log ≡ 0 → Judged p10 r store scratch log → ⊥
+    (r : Answer) (store scratch : List ℕ) (log : List StepRecord) (occurrences : List ℕ) → first-terms log ≡ 0
+    → Judged p10 r store scratch log occurrences → ⊥
+
+-- counting the occurrences at the start alone: these are the start's, and the step of P1 leaves no term
+abbrev pub NotCountAtTheStart : Type 0
+NotCountAtTheStart =
+    (r : Answer) (store scratch : List ℕ) (log : List StepRecord) → Judged p1 r store scratch log (2 ∷ 1 ∷ 1 ∷ 1 ∷ []) → ⊥
+
+-- inventing the occurrences: any but those of P6, where no step is taken
+abbrev pub NotInventTheOccurrences : Type 0
+NotInventTheOccurrences =
+    (r : Answer) (store scratch : List ℕ) (log : List StepRecord) (occurrences : List ℕ) → (occurrences ≡ 2 ∷ 1 ∷ 1 ∷ 1 ∷ [] → ⊥)
+    → Judged p6 r store scratch log occurrences → ⊥
 
 -- inventing the term count: any but the number of terms held
 abbrev pub NotInventTheCount : Type 0
 NotInventTheCount =
-    (steps held : ℕ) (store scratch : List ℕ) (log : List StepRecord) → (held ≡ 2 → ⊥)
-    → Judged p6 (Unfinished steps held) store scratch log → ⊥
+    (steps held : ℕ) (store scratch : List ℕ) (log : List StepRecord) (occurrences : List ℕ) → (held ≡ 2 → ⊥)
+    → Judged p6 (Unfinished steps held) store scratch log occurrences → ⊥

@@ -14,7 +14,7 @@ use rules::counts::Counts;
 use rules::limits::Limits;
 
 // What is said of a netlist of AND gates with M at most 127. A term of it has at most three words: the store has room for 512 of them, scratch
-// for four times as many.
+// for four times as many. The occurrences are M + 1 words, at most 128.
 pub fn judged(kind: u32, counts: Counts, table: &[u32]) -> Answer
     requires { ⌜ (counts .a ≤ counts .m) × (counts .m ≤ most-desk-variables) × (counts .records ≡ Gates) ⌝ }
     ensures { λ r. ⌜ says r ≡ desk-judging kind counts (now (table .entry)) ⌝ }
@@ -22,6 +22,7 @@ pub fn judged(kind: u32, counts: Counts, table: &[u32]) -> Answer
     let mut order = [0u32; 127];
     let mut store = [0u64; 1536];
     let mut scratch = [0u64; 6144];
+    let mut occurrences = [0u32; 127 + 1];
     let count = put_falling(counts, &mut order);
     judge_unlogged(
         counts,
@@ -31,6 +32,7 @@ pub fn judged(kind: u32, counts: Counts, table: &[u32]) -> Answer
         &order[..count],
         &mut store,
         &mut scratch,
+        &mut occurrences,
     )
 }
 

@@ -195,7 +195,7 @@ pub answer-says : (a q : Answer) → a ≡ q → says a ≡ says q
 answer-says a q e = ap says e
 
 -- no room for seven values
-pub judge-short : (x : Inputs) (lent : List ℕ) → length lent < 7 → JudgeGiven x lent 112 (x .store) (x .scratch) (x .log) lent
+pub judge-short : (x : Inputs) (lent : List ℕ) → length lent < 7 → JudgeGiven x lent 112 (x .store) (x .scratch) (x .log) (x .occurrences) lent
 unfolding number-of given
 judge-short x lent h =
     record {
@@ -203,10 +203,12 @@ judge-short x lent h =
       store-words = rw (lt-ltb (length lent) 7 h);
       scratch-words = rw (lt-ltb (length lent) 7 h);
       log-records = rw (lt-ltb (length lent) 7 h);
+      occurrence-words = rw (lt-ltb (length lent) 7 h);
       answer-words = rw (said-short 7 lent (judging x) h);
     }
 
-module _ (x : Inputs) (lent : List ℕ) (a : Answer) (store scratch : List ℕ) (log : List StepRecord) (done : Judged x a store scratch log) where
+module _ (x : Inputs) (lent : List ℕ) (a : Answer) (store scratch : List ℕ) (log : List StepRecord) (occurrences : List ℕ)
+    (done : Judged x a store scratch log occurrences) where
   -- the number of a refusal is at most 12
   pub judge-most : Refusing a
   unfolding judging refuse-or refusal checks judge-checks
@@ -218,12 +220,13 @@ module _ (x : Inputs) (lent : List ℕ) (a : Answer) (store scratch : List ℕ) 
 
   -- what the judge says, given
   pub judge-given : (r : ℕ) (exit : List ℕ) → 7 ≤ length lent → (r ≡ number-of (says a)) × (exit ≡ given (says a) lent)
-      → JudgeGiven x lent r store scratch log exit
+      → JudgeGiven x lent r store scratch log occurrences exit
   judge-given r exit h put =
       record {
         number = put .0 ∙ rw (said-later 7 lent (judging x) h, done .said);
         store-words = rw (le-ltb (length lent) 7 h) (done .store-words);
         scratch-words = rw (le-ltb (length lent) 7 h) (done .scratch-words);
         log-records = rw (le-ltb (length lent) 7 h) (done .log-records);
+        occurrence-words = rw (le-ltb (length lent) 7 h) (done .occurrence-words);
         answer-words = put .1 ∙ rw (said-later 7 lent (judging x) h, done .said);
       }

@@ -8,7 +8,7 @@ use lib.ListN.{length, drop}
 use Rattle.rules.specs.Says.{Says, refuses, answers, says}
 use Rattle.rules.specs.Values.{evaluating}
 use Rattle.rules.specs.Reading.{reading, reading-says, table-after}
-use Rattle.rules.specs.Judging.{Inputs, judging, store-after, scratch-after, log-after}
+use Rattle.rules.specs.Judging.{Inputs, judging, store-after, scratch-after, log-after, occurrences-after}
 use Rattle.rules.specs.declared.answers.Answer.{Answer}
 use Rattle.rules.specs.declared.answers.StepRecord.{StepRecord}
 use Rattle.rules.specs.declared.counts.Counts.{Counts}
@@ -62,11 +62,12 @@ abbrev pub judge-said : Inputs → List ℕ → Says
 judge-said x answer = unless-short 7 answer (judging x)
 
 -- the permitted outcome of `hraskell_judge`
-pub record JudgeGiven (x : Inputs) (answer : List ℕ) (r : ℕ) (store scratch : List ℕ) (log : List StepRecord) (answer-exit : List ℕ) : Type 0 where
+pub record JudgeGiven (x : Inputs) (answer : List ℕ) (r : ℕ) (store scratch : List ℕ) (log : List StepRecord) (occurrences answer-exit : List ℕ) : Type 0 where
   pub number : r ≡ number-of (judge-said x answer)
   pub store-words : store ≡ cond (ltb (length answer) 7) (x .store) (store-after x)
   pub scratch-words : scratch ≡ cond (ltb (length answer) 7) (x .scratch) (scratch-after x)
   pub log-records : log ≡ cond (ltb (length answer) 7) (x .log) (log-after x)
+  pub occurrence-words : occurrences ≡ cond (ltb (length answer) 7) (x .occurrences) (occurrences-after x)
   pub answer-words : answer-exit ≡ given (judge-said x answer) answer
 
 -- a refusal's number is one that the judge gives

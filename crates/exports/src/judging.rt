@@ -92,14 +92,25 @@ pub extern "C" fn hraskell_judge(
     store: &mut [u64],
     scratch: &mut [u64],
     log: &mut [StepRecord],
+    occurrences: &mut [u32],
     answer: &mut [u64],
 ) -> u32
-    ensures { λ r. ⌜ JudgeGiven (handed (named m i l o a cells) (now (table .entry)) kind limit (now (order .entry)) (now (store .entry)) (now (scratch .entry)) (now (log .entry))) (now (answer .entry)) r (now (store .exit)) (now (scratch .exit)) (now (log .exit)) (now (answer .exit)) ⌝ }
+    ensures { λ r. ⌜ JudgeGiven (handed (named m i l o a cells) (now (table .entry)) kind limit (now (order .entry)) (now (store .entry)) (now (scratch .entry)) (now (log .entry)) (now (occurrences .entry))) (now (answer .entry)) r (now (store .exit)) (now (scratch .exit)) (now (log .exit)) (now (occurrences .exit)) (now (answer .exit)) ⌝ }
 {
     if answer.len() < 7 {
         return 112;
     }
     let counts = crate::blocks::counts(m, i, l, o, a, cells);
-    let said = judge::judge(counts, table, kind, limit, order, store, scratch, log);
+    let said = judge::judge(
+        counts,
+        table,
+        kind,
+        limit,
+        order,
+        store,
+        scratch,
+        log,
+        occurrences,
+    );
     put_answer(said, answer)
 }

@@ -11,6 +11,7 @@ use lib.Seq.{drop-cons, take-suc, set-at, append-snoc, length-take-le}
 use borrow.Author.Tests.{lt-ltb, le-ltb, leb-false}
 use Rattle.rules.specs.Each.{every}
 use Rattle.rules.specs.Judging.{is-gate, set-width, roomy, held, completed, over, records}
+use Rattle.rules.specs.Occurrences.{with-occurrences}
 use Rattle.rules.specs.Polynomial.{Polynomial}
 use Rattle.rules.specs.Steps.{step, trail}
 use Rattle.rules.specs.declared.answers.StepRecord.{StepRecord}
@@ -21,6 +22,7 @@ use Rattle.words.specs.Stored.{decoded}
 use Rattle.judge.specs.Running.{Running, Turned, Finished}
 use Rattle.judge.specs.declared.turn.Turn.{Turn}
 use Rattle.judge.specs.declared.run.Ran.{Ran}
+use Rattle.judge.proofs.Numbers.{with-again}
 use Rattle.judge.proofs.Held.{running-decoded, step-normal, Laid, moved}
 
 module _ (m : ℕ) (c : Counts) (table : List ℕ) where
@@ -90,20 +92,23 @@ roomy-none limit list j h = rw (drop-of-length-le list {i = j} h)
 abbrev pub path : Counts → List ℕ → Polynomial → List ℕ → List Polynomial
 path c table first order = trail (2 ^ c .o) c table first order
 
--- after k steps, each with room: the polynomial is in the store, and the log has k records over what stood there
-pub record Going (c : Counts) (table : List ℕ) (limit : ℕ) (order : List ℕ) (first : Polynomial) (store₀ scratch₀ : List ℕ) (log₀ : List StepRecord)
-    (k count : ℕ) (store scratch : List ℕ) (log : List StepRecord) : Type 0 where
+-- after k steps, each with room: the polynomial is in the store, the log has k records over what stood there, and the occurrences are
+-- the polynomial's
+pub record Going (c : Counts) (table : List ℕ) (limit : ℕ) (order : List ℕ) (first : Polynomial) (store₀ scratch₀ : List ℕ) (log₀ : List StepRecord) (occurrences₀ : List ℕ)
+    (k count : ℕ) (store scratch : List ℕ) (log : List StepRecord) (occurrences : List ℕ) : Type 0 where
   pub within : k ≤ length order
-  pub running : Running c table limit count (getD (path c table first order) k []) store scratch
+  pub running : Running c table limit count (getD (path c table first order) k []) store scratch occurrences
   pub store-lent : length store ≡ length store₀
   pub scratch-lent : length scratch ≡ length scratch₀
+  pub numbers-lent : length occurrences ≡ length occurrences₀
   pub room : roomy limit (path c table first order) ≡ suc k + roomy limit (drop (suc k) (path c table first order))
   pub log-records : log ≡ over k (records order (path c table first order)) log₀
+  pub numbers : occurrences ≡ with-occurrences c (getD (path c table first order) k []) occurrences₀
 
-module _ {c : Counts} {table : List ℕ} {limit : ℕ} {order : List ℕ} {first : Polynomial} {store₀ scratch₀ : List ℕ} {log₀ : List StepRecord} where
+module _ {c : Counts} {table : List ℕ} {limit : ℕ} {order : List ℕ} {first : Polynomial} {store₀ scratch₀ : List ℕ} {log₀ : List StepRecord} {occurrences₀ : List ℕ} where
   -- before the first step
-  pub going-first : {count : ℕ} → Running c table limit count first store₀ scratch₀
-      → Going c table limit order first store₀ scratch₀ log₀ 0 count store₀ scratch₀ log₀
+  pub going-first : {count : ℕ} → Running c table limit count first store₀ scratch₀ occurrences₀
+      → Going c table limit order first store₀ scratch₀ log₀ occurrences₀ 0 count store₀ scratch₀ log₀ occurrences₀
   unfolding over
   going-first {count} r =
       let e : getD (path c table first order) 0 [] ≡ first = trail-first (2 ^ c .o) c table first order in
@@ -115,12 +120,14 @@ module _ {c : Counts} {table : List ℕ} {limit : ℕ} {order : List ℕ} {first
         running = rw e r;
         store-lent = refl;
         scratch-lent = refl;
+        numbers-lent = refl;
         room = omega arith;
         log-records = refl;
+        numbers = rw e (r .numbers);
       }
 
-  module _ {k count : ℕ} {store scratch : List ℕ} {log : List StepRecord}
-      (g : Going c table limit order first store₀ scratch₀ log₀ k count store scratch log) where
+  module _ {k count : ℕ} {store scratch : List ℕ} {log : List StepRecord} {occurrences : List ℕ}
+      (g : Going c table limit order first store₀ scratch₀ log₀ occurrences₀ k count store scratch log occurrences) where
     -- the log is as long as it was
     pub log-lent : length order ≤ length log₀ → length log ≡ length log₀
     log-lent l =
@@ -131,14 +138,14 @@ module _ {c : Counts} {table : List ℕ} {limit : ℕ} {order : List ℕ} {first
 
     -- what a turn asks is there
     pub going-ready : k < length order → every (is-gate c) order ≡ true
-        → Running c table limit count (decoded (set-width c) count store) store scratch × (c .i < getD order k 0) × (getD order k 0 ≤ c .m)
+        → Running c table limit count (decoded (set-width c) count store) store scratch occurrences × (c .i < getD order k 0) × (getD order k 0 ≤ c .m)
     going-ready h every-gate =
         let gate = gate-here c order every-gate k h in
         (rw (running-decoded (g .running)) (g .running), gate .0, gate .1)
 
     -- the polynomial held at the end, where the next has no room or there is none
     finish : roomy limit (path c table first order) ≡ suc k → (r : Ran) → r .fits ≡ ltb (length order) (suc k) → r .steps ≡ k → r .terms ≡ count
-        → Finished c limit order (path c table first order) store₀ scratch₀ log₀ r store (replicate (length scratch₀) 0) log
+        → Finished c limit order (path c table first order) store₀ scratch₀ log₀ occurrences₀ r store (replicate (length scratch₀) 0) log occurrences
     unfolding held completed
     finish e r fits steps counted =
         record {
@@ -150,46 +157,48 @@ module _ {c : Counts} {table : List ℕ} {limit : ℕ} {order : List ℕ} {first
           store-words = rw (e, ← g .store-lent) (g .running .kept);
           scratch-words = refl;
           log-records = rw e (g .log-records);
+          occurrence-words = rw e (g .numbers);
         }
 
     -- after the last step
     pub going-end : k ≡ length order → (r : Ran) → r .fits ≡ true → r .steps ≡ k → r .terms ≡ count
-        → Finished c limit order (path c table first order) store₀ scratch₀ log₀ r store scratch log
+        → Finished c limit order (path c table first order) store₀ scratch₀ log₀ occurrences₀ r store scratch log occurrences
     going-end e r fits steps counted =
         let clean : scratch ≡ replicate (length scratch₀) 0 = rw (g .scratch-lent) at (g .running .clean) in
         let last : roomy limit (drop (suc k) (path c table first order)) ≡ 0 =
         roomy-none limit (path c table first order) (suc k) (omega (arith, length-trail (2 ^ c .o) c table first order)) in
         rw clean (finish (omega (arith, g .room)) r (fits ∙ sym (lt-ltb (length order) (suc k) (omega arith))) steps counted)
 
-    module _ (h : k < length order) (every-gate : every (is-gate c) order ≡ true) {t : Turn} {store′ scratch′ : List ℕ}
-        (turned : Turned c limit count (getD order k 0) (step (2 ^ c .o) c table (getD order k 0) (decoded (set-width c) count store)) store scratch t store′ scratch′) where
+    module _ (h : k < length order) (every-gate : every (is-gate c) order ≡ true) {t : Turn} {store′ scratch′ occurrences′ : List ℕ}
+        (turned : Turned c limit count (getD order k 0) (step (2 ^ c .o) c table (getD order k 0) (decoded (set-width c) count store)) store scratch occurrences t store′ scratch′ occurrences′) where
       -- the turn is to the next polynomial
-      turned-next : Turned c limit count (getD order k 0) (getD (path c table first order) (suc k) []) store scratch t store′ scratch′
+      turned-next : Turned c limit count (getD order k 0) (getD (path c table first order) (suc k) []) store scratch occurrences t store′ scratch′ occurrences′
       turned-next =
           rw (trail-next (2 ^ c .o) c table order first k h, ← running-decoded (g .running)) turned
 
       -- a turn without room ends the run
       pub going-full : t .fits ≡ false → (r : Ran) → r .fits ≡ false → r .steps ≡ k → r .terms ≡ count
-          → Finished c limit order (path c table first order) store₀ scratch₀ log₀ r store′ scratch′ log
+          → Finished c limit order (path c table first order) store₀ scratch₀ log₀ occurrences₀ r store′ scratch′ log occurrences′
       going-full full r fits steps counted =
           let t′ = turned-next in
           let over-limit : leb (length (getD (path c table first order) (suc k) [])) limit ≡ false = sym (t′ .fits) ∙ full in
           let same : store′ ≡ store = rw over-limit at (t′ .stored) in
           let clean : scratch′ ≡ replicate (length scratch₀) 0 = rw (g .scratch-lent) at (t′ .cleared) in
+          let still : occurrences′ ≡ occurrences = rw over-limit at (t′ .numbers) in
           let z : roomy limit (drop (suc k) (path c table first order)) ≡ 0 =
           roomy-full limit (path c table first order) (suc k) (omega (arith, length-trail (2 ^ c .o) c table first order)) (leb-false _ _ over-limit) in
-          rw (same, clean) (finish (omega (arith, g .room)) r (fits ∙ sym (le-ltb (length order) (suc k) (omega arith))) steps counted)
+          rw (same, clean, still) (finish (omega (arith, g .room)) r (fits ∙ sym (le-ltb (length order) (suc k) (omega arith))) steps counted)
 
       -- a turn with room is one step more
       pub going-more : length order ≤ length log₀ → t .fits ≡ true
-          → Going c table limit order first store₀ scratch₀ log₀ (k + 1) (t .terms) store′ scratch′ (set log k (record { gate = t .gate; terms = t .terms }))
+          → Going c table limit order first store₀ scratch₀ log₀ occurrences₀ (k + 1) (t .terms) store′ scratch′ (set log k (record { gate = t .gate; terms = t .terms })) occurrences′
       going-more long fits =
           let t′ = turned-next in
           let gate = gate-here c order every-gate k h in
           let normal = step-normal (g .running) (getD order k 0) (gate .0) (gate .1) in
           let next : getD (path c table first order) (suc k) [] ≡ step (2 ^ c .o) c table (getD order k 0) (getD (path c table first order) k []) =
           trail-next (2 ^ c .o) c table order first k h in
-          let m : Laid c table limit (t .terms) (getD (path c table first order) (suc k) []) store scratch store′ scratch′ =
+          let m : Laid c table limit (t .terms) (getD (path c table first order) (suc k) []) store scratch occurrences store′ scratch′ occurrences′ =
           moved (g .running) (rw next normal) t′ fits in
           let more : k + 1 ≡ suc k = add-one k in
           let all : length (path c table first order) ≡ suc (length order) = length-trail (2 ^ c .o) c table first order in
@@ -203,6 +212,11 @@ module _ {c : Counts} {table : List ℕ} {limit : ℕ} {order : List ℕ} {first
             running = rw more (m .running);
             store-lent = m .store-lent ∙ g .store-lent;
             scratch-lent = m .scratch-lent ∙ g .scratch-lent;
+            numbers-lent = m .numbers-lent ∙ g .numbers-lent;
             room = rw more (omega (arith, g .room, roomy-next limit (path c table first order) (suc k) (omega arith) few));
             log-records = rw (g .log-records, here) (over-next (records order (path c table first order)) log₀ k none (omega arith) (omega arith));
+            numbers =
+                rw more
+                (m .numbers ∙ ap (with-occurrences c (getD (path c table first order) (suc k) [])) (g .numbers)
+                ∙ with-again c (getD (path c table first order) k []) (getD (path c table first order) (suc k) []) occurrences₀);
           }

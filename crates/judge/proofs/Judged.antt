@@ -10,7 +10,7 @@ use lib.ListN.{length}
 use borrow.Author.Tests.{ltb-false, leb-true, leb-false, not-false}
 use Rattle.rules.specs.Each.{every}
 use Rattle.rules.specs.Judging.{misfits, Inputs, Judged, is-gate, set-width, term-width, kind-wrong, order-wrong, most-made, scratch-needed, lent-short, judge-checks, ended}
-use Rattle.rules.specs.Judging.{checks, refusal, polynomials, judging, store-after, scratch-after, log-after, kept-or}
+use Rattle.rules.specs.Judging.{checks, refusal, polynomials, judging, store-after, scratch-after, log-after, occurrences-after, kept-or}
 use Rattle.rules.specs.Limits.{most-steps, terms-wrong, steps-wrong}
 use Rattle.rules.specs.Netlist.{counts-wrong, table-short, table-unsound}
 use Rattle.rules.specs.Product.{kind-of, kind-unknown}
@@ -73,19 +73,20 @@ module _ (c : Counts) (table : List ℕ) (kind : ℕ) (ran : Ran) (store : List 
   unfolding last
   last-ended e = rw e
 
-module _ (c : Counts) (table : List ℕ) (kind limit : ℕ) (order store scratch : List ℕ) where
+module _ (c : Counts) (table : List ℕ) (kind limit : ℕ) (order store scratch occurrences : List ℕ) where
   -- what it says that no check holds
-  pub all-passed : (log : ℕ) → first (judge-checks c table kind limit order (length store) (length scratch) log) ≡ 0
-      → Passed c table kind limit order store scratch log
+  pub all-passed : (log : ℕ) → first (judge-checks c table kind limit order (length store) (length scratch) log (length occurrences)) ≡ 0
+      → Passed c table kind limit order store scratch log occurrences
   unfolding judge-checks first kind-wrong order-wrong lent-short scratch-needed
   all-passed log h =
       let four = row-later (counts-wrong c) (table-short c (length table)) (table-unsound c table) (kind-wrong c kind) _ h in
-      let three = later-passed (terms-wrong limit) (order-wrong c order) (lent-short c limit (length order) (length store) (length scratch) log) (four .4) in
+      let three = later-passed (terms-wrong limit) (order-wrong c order) (lent-short c limit (length order) (length store) (length scratch) log (length occurrences)) (four .4) in
       let kinds = neither (kind-unknown kind) (misfits c (kind-of kind)) (four .3) in
       let orders = neither (steps-wrong (length order)) (not (every (is-gate c) order)) (three .1) in
       let short-store = ltb (length store) (limit * term-width c) in
       let short-scratch = ltb (length scratch) (scratch-needed c limit) in
-      let lents = neither (short-store || short-scratch) (ltb log (length order)) (three .2) in
+      let all = neither (short-store || short-scratch || ltb log (length order)) (ltb (length occurrences) (c .m + 1)) (three .2) in
+      let lents = neither (short-store || short-scratch) (ltb log (length order)) (all .0) in
       let words = neither short-store short-scratch (lents .0) in
       record {
         block = record {
@@ -94,6 +95,7 @@ module _ (c : Counts) (table : List ℕ) (kind limit : ℕ) (order store scratch
           taken = limit-small limit (three .0);
           store-room = ltb-false (length store) (limit * term-width c) (words .0);
           scratch-room = four-enough (c .records) limit (term-width c) (length scratch) (ltb-false (length scratch) (scratch-needed c limit) (words .1));
+          numbers-room = ltb-false (length occurrences) (c .m + 1) (all .1);
         };
         short = steps-few (length order) (orders .0);
         gates-only = not-false (every (is-gate c) order) (orders .1);
@@ -101,24 +103,24 @@ module _ (c : Counts) (table : List ℕ) (kind limit : ℕ) (order store scratch
       }
 
   -- a refusal sets nothing out
-  pub set-out-refused : {lent : ℕ} {o : Outset} → o .number ≡ first (judge-checks c table kind limit order (length store) (length scratch) lent)
-      → (o .number ≡ 0 → ⊥) → o .begun ≡ false → o .held ≡ 0 → SetOut c table kind limit order lent store scratch o store scratch
-  set-out-refused e some off held = record { refused = e; still = λ h. (off, refl, refl, held); started = λ z. absurd (some z) }
+  pub set-out-refused : {lent : ℕ} {o : Outset} → o .number ≡ first (judge-checks c table kind limit order (length store) (length scratch) lent (length occurrences))
+      → (o .number ≡ 0 → ⊥) → o .begun ≡ false → o .held ≡ 0 → SetOut c table kind limit order lent store scratch occurrences o store scratch occurrences
+  set-out-refused e some off held = record { refused = e; still = λ h. (off, refl, refl, refl, held); started = λ z. absurd (some z) }
 
   -- without one the start is set out
-  pub set-out-started : {lent : ℕ} {o : Outset} {store′ scratch′ : List ℕ}
-      → o .number ≡ first (judge-checks c table kind limit order (length store) (length scratch) lent) → o .number ≡ 0
-      → Begun c limit (start (kind-of kind) c table) store scratch (o .held) store′ scratch′ → o .begun ≡ leb (o .held) limit
-      → SetOut c table kind limit order lent store scratch o store′ scratch′
+  pub set-out-started : {lent : ℕ} {o : Outset} {store′ scratch′ occurrences′ : List ℕ}
+      → o .number ≡ first (judge-checks c table kind limit order (length store) (length scratch) lent (length occurrences)) → o .number ≡ 0
+      → Begun c limit (start (kind-of kind) c table) store scratch occurrences (o .held) store′ scratch′ occurrences′ → o .begun ≡ leb (o .held) limit
+      → SetOut c table kind limit order lent store scratch occurrences o store′ scratch′ occurrences′
   set-out-started e none b on = record { refused = e; still = λ some. absurd (some none); started = λ z. (b, on) }
 
   module _ (log : List StepRecord) where
     abbrev input : Inputs
-    input = handed c table kind limit order store scratch log
+    input = handed c table kind limit order store scratch log occurrences
 
     -- a refusal changes no word
-    judged-refused : (number : ℕ) → number ≡ refusal input → (number ≡ 0 → ⊥) → {r : Answer} → says r ≡ stop number → Judged input r store scratch log
-    unfolding stop judging store-after scratch-after log-after refuse-or kept-or
+    judged-refused : (number : ℕ) → number ≡ refusal input → (number ≡ 0 → ⊥) → {r : Answer} → says r ≡ stop number → Judged input r store scratch log occurrences
+    unfolding stop judging store-after scratch-after log-after occurrences-after refuse-or kept-or
     judged-refused zero e h said = absurd (h refl)
     judged-refused (suc k) e h said =
         record {
@@ -126,32 +128,35 @@ module _ (c : Counts) (table : List ℕ) (kind limit : ℕ) (order store scratch
           store-words = rw (← e);
           scratch-words = rw (← e);
           log-records = rw (← e);
+          occurrence-words = rw (← e);
         }
 
     -- nothing refused: what is decided
-    judged-decided : refusal input ≡ 0 → {r : Answer} {store′ scratch′ : List ℕ} {log′ : List StepRecord}
-        → Decided c table kind limit order store scratch log r store′ scratch′ log′ → Judged input r store′ scratch′ log′
-    unfolding judging store-after scratch-after log-after refuse-or kept-or polynomials
+    judged-decided : refusal input ≡ 0 → {r : Answer} {store′ scratch′ : List ℕ} {log′ : List StepRecord} {occurrences′ : List ℕ}
+        → Decided c table kind limit order store scratch log occurrences r store′ scratch′ log′ occurrences′ → Judged input r store′ scratch′ log′ occurrences′
+    unfolding judging store-after scratch-after log-after occurrences-after refuse-or kept-or polynomials
     judged-decided e d =
         record {
           said = rw e (d .said);
           store-words = rw e (d .store-words);
           scratch-words = rw e (d .scratch-words);
           log-records = rw e (d .log-records);
+          occurrence-words = rw e (d .occurrence-words);
         }
 
-    module _ {o : Outset} {store₁ scratch₁ : List ℕ} (s : SetOut c table kind limit order (length log) store scratch o store₁ scratch₁) where
+    module _ {o : Outset} {store₁ scratch₁ occurrences₁ : List ℕ}
+        (s : SetOut c table kind limit order (length log) store scratch occurrences o store₁ scratch₁ occurrences₁) where
       -- the number is the refusal
       number-is : o .number ≡ refusal input
       unfolding refusal checks
       number-is = s .refused
 
       -- where no run begins, the outcome is the refusal, or no room at the start
-      pub judged-stopped : o .begun ≡ false → {r : Answer} → says r ≡ stop (o .number) → Judged input r store₁ scratch₁ log
+      pub judged-stopped : o .begun ≡ false → {r : Answer} → says r ≡ stop (o .number) → Judged input r store₁ scratch₁ log occurrences₁
       unfolding stop
       judged-stopped off {r} said = go (o .number) refl
         where
-          go : (n : ℕ) → o .number ≡ n → Judged input r store₁ scratch₁ log
+          go : (n : ℕ) → o .number ≡ n → Judged input r store₁ scratch₁ log occurrences₁
           go zero e =
               let b = s .started e in
               judged-decided (sym number-is ∙ e)
@@ -159,7 +164,7 @@ module _ (c : Counts) (table : List ℕ) (kind limit : ℕ) (order store scratch
           go (suc k) e =
               let some : o .number ≡ 0 → ⊥ = λ z. omega arith in
               let same = s .still some in
-              rw (same .1, same .2) (judged-refused (o .number) number-is some said)
+              rw (same .1, same .2, same .3) (judged-refused (o .number) number-is some said)
 
       module _ (on : o .begun ≡ true) where
         -- a run begins only where nothing is refused
@@ -170,25 +175,25 @@ module _ (c : Counts) (table : List ℕ) (kind limit : ℕ) (order store scratch
             go zero e = e
             go (suc k) e = absurd (subst T (sym on ∙ s .still (λ z. omega arith) .0) tt)
 
-        passed : Passed c table kind limit order store scratch (length log)
+        passed : Passed c table kind limit order store scratch (length log) occurrences
         passed = all-passed (length log) (sym (s .refused) ∙ none-refused)
 
-        start-opened : Opened c table limit (start (kind-of kind) c table) store scratch (o .held) store₁ scratch₁
+        start-opened : Opened c table limit (start (kind-of kind) c table) store scratch occurrences (o .held) store₁ scratch₁ occurrences₁
         start-opened =
             let b = s .started none-refused in
             opened (passed .block) (b .0) (leb-true (o .held) limit (sym (b .1) ∙ on))
 
         -- what the run asks is there
-        pub run-ready : Running c table limit (o .held) (decoded (set-width c) (o .held) store₁) store₁ scratch₁
+        pub run-ready : Running c table limit (o .held) (decoded (set-width c) (o .held) store₁) store₁ scratch₁ occurrences₁
             × (every (is-gate c) order ≡ true) × (length order ≤ length log)
         run-ready = (start-opened .running, passed .gates-only, passed .log-room)
 
-        module _ {ran : Ran} {store₂ scratch₂ : List ℕ} {log₂ : List StepRecord}
-            (f : Finished c limit order (path c table (decoded (set-width c) (o .held) store₁) order) store₁ scratch₁ log ran store₂ scratch₂ log₂) where
+        module _ {ran : Ran} {store₂ scratch₂ : List ℕ} {log₂ : List StepRecord} {occurrences₂ : List ℕ}
+            (f : Finished c limit order (path c table (decoded (set-width c) (o .held) store₁) order) store₁ scratch₁ log occurrences₁ ran store₂ scratch₂ log₂ occurrences₂) where
           -- what the answer after it asks is there
           pub ran-closing : Closing c table kind ran store₂
           ran-closing = closing passed start-opened f
 
           -- and with it the outcome is the one permitted
-          pub judged-last : {r : Answer} → says r ≡ last c table kind ran store₂ → Judged input r store₂ scratch₂ log₂
+          pub judged-last : {r : Answer} → says r ≡ last c table kind ran store₂ → Judged input r store₂ scratch₂ log₂ occurrences₂
           judged-last {r} said = judged-decided (sym number-is ∙ none-refused) (decided-last passed start-opened f r said)

@@ -1,4 +1,5 @@
 -- The laws of the judge.
+pub mod Numbers
 pub mod Held
 pub mod Going
 pub mod Place

@@ -19,15 +19,17 @@ pub record Begin : Type 0 where
   pub store : List ℕ
   pub scratch : List ℕ
   pub log : List StepRecord
+  pub occurrences : List ℕ
 
--- the step, the terms held, store, scratch and log where a turn begins, and that the run is going there
+-- the step, the terms held, and store, scratch, log and occurrences where a turn begins, and that the run is going there
 pub record Place (b : Begin) : Type 0 where
   pub at : ℕ
   pub left : ℕ
   pub store : List ℕ
   pub scratch : List ℕ
   pub log : List StepRecord
-  pub going : Going (b .counts) (b .table) (b .limit) (b .order) (b .polynomial) (b .store) (b .scratch) (b .log) at left store scratch log
+  pub occurrences : List ℕ
+  pub going : Going (b .counts) (b .table) (b .limit) (b .order) (b .polynomial) (b .store) (b .scratch) (b .log) (b .occurrences) at left store scratch log occurrences
 
 module _ (b : Begin) where
   -- the steps that are left

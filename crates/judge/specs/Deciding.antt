@@ -6,8 +6,9 @@ use Prim.Native.Nat.{ℕ, zero, suc, _+_, _*_, _≤_}
 use lib.Dec.{leb}
 use lib.ListN.{length, replicate}
 use Rattle.rules.specs.Each.{every}
-use Rattle.rules.specs.Judging.{Inputs, misfits, is-gate, set-width, term-width, judge-checks, held, completed, ended, verdict, polynomial-words, padded, over, records, judging, store-after, scratch-after}
+use Rattle.rules.specs.Judging.{Inputs, misfits, is-gate, set-width, term-width, judge-checks, held, completed, ended, verdict, polynomial-words, padded, over, records, judging, store-after, scratch-after, occurrences-after}
 use Rattle.rules.specs.Limits.{most-terms, most-steps}
+use Rattle.rules.specs.Occurrences.{with-occurrences}
 use Rattle.rules.specs.Polynomial.{Polynomial}
 use Rattle.rules.specs.Product.{kind-of}
 use Rattle.rules.specs.Says.{Says, refuses, answers, first, says}
@@ -23,8 +24,8 @@ use Rattle.judge.specs.declared.deciding.Outset.{Outset}
 use Rattle.judge.specs.declared.run.Ran.{Ran}
 
 -- everything that the judge is handed, in the order of its parameters
-abbrev pub handed : Counts → List ℕ → ℕ → ℕ → List ℕ → List ℕ → List ℕ → List StepRecord → Inputs
-handed c table kind limit order store scratch log =
+abbrev pub handed : Counts → List ℕ → ℕ → ℕ → List ℕ → List ℕ → List ℕ → List StepRecord → List ℕ → Inputs
+handed c table kind limit order store scratch log occurrences =
     record {
       counts = c;
       table = table;
@@ -34,33 +35,36 @@ handed c table kind limit order store scratch log =
       store = store;
       scratch = scratch;
       log = log;
+      occurrences = occurrences;
     }
 
--- a sound block that fits its kind, a limit that is taken, and room for its terms
-pub record Block (c : Counts) (table : List ℕ) (kind limit : ℕ) (store scratch : List ℕ) : Type 0 where
+-- a sound block that fits its kind, a limit that is taken, and room for its terms and for a number of each variable
+pub record Block (c : Counts) (table : List ℕ) (kind limit : ℕ) (store scratch occurrences : List ℕ) : Type 0 where
   pub sound : Sound c table
   pub fitting : misfits c (kind-of kind) ≡ false
   pub taken : limit ≤ most-terms
   pub store-room : limit * term-width c ≤ length store
   pub scratch-room : 4 * limit * term-width c ≤ length scratch
+  pub numbers-room : c .m + 1 ≤ length occurrences
 
 -- what the checks leave: such a block, an order of gates, and a log that is long enough
-pub record Passed (c : Counts) (table : List ℕ) (kind limit : ℕ) (order store scratch : List ℕ) (log : ℕ) : Type 0 where
-  pub block : Block c table kind limit store scratch
+pub record Passed (c : Counts) (table : List ℕ) (kind limit : ℕ) (order store scratch : List ℕ) (log : ℕ) (occurrences : List ℕ) : Type 0 where
+  pub block : Block c table kind limit store scratch occurrences
   pub short : length order ≤ most-steps
   pub gates-only : every (is-gate c) order ≡ true
   pub log-room : length order ≤ log
 
--- the start p is in the store if it has room, and scratch is zeros
-pub record Begun (c : Counts) (limit : ℕ) (p : Polynomial) (store scratch : List ℕ) (r : ℕ) (store′ scratch′ : List ℕ) : Type 0 where
+-- the start p is in the store if it has room, scratch is zeros, and the occurrences are those of what the store has
+pub record Begun (c : Counts) (limit : ℕ) (p : Polynomial) (store scratch occurrences : List ℕ) (r : ℕ) (store′ scratch′ occurrences′ : List ℕ) : Type 0 where
   pub written : Started p (set-width c) limit (length store) r store′
   pub scratch-words : scratch′ ≡ replicate (length scratch) 0
+  pub occurrence-words : occurrences′ ≡ with-occurrences c (cond (leb (length p) limit) p []) occurrences
 
 -- what comes before the run: the first refusal, and then all as it was; or the start, and a run where it has room
-pub record SetOut (c : Counts) (table : List ℕ) (kind limit : ℕ) (order : List ℕ) (log : ℕ) (store scratch : List ℕ) (r : Outset) (store′ scratch′ : List ℕ) : Type 0 where
-  pub refused : r .number ≡ first (judge-checks c table kind limit order (length store) (length scratch) log)
-  pub still : (r .number ≡ 0 → ⊥) → (r .begun ≡ false) × (store′ ≡ store) × (scratch′ ≡ scratch) × (r .held ≡ 0)
-  pub started : r .number ≡ 0 → Begun c limit (start (kind-of kind) c table) store scratch (r .held) store′ scratch′ × (r .begun ≡ leb (r .held) limit)
+pub record SetOut (c : Counts) (table : List ℕ) (kind limit : ℕ) (order : List ℕ) (log : ℕ) (store scratch occurrences : List ℕ) (r : Outset) (store′ scratch′ occurrences′ : List ℕ) : Type 0 where
+  pub refused : r .number ≡ first (judge-checks c table kind limit order (length store) (length scratch) log (length occurrences))
+  pub still : (r .number ≡ 0 → ⊥) → (r .begun ≡ false) × (store′ ≡ store) × (scratch′ ≡ scratch) × (occurrences′ ≡ occurrences) × (r .held ≡ 0)
+  pub started : r .number ≡ 0 → Begun c limit (start (kind-of kind) c table) store scratch occurrences (r .held) store′ scratch′ occurrences′ × (r .begun ≡ leb (r .held) limit)
 
 -- what is said where no run begins
 unfoldable pub stop : ℕ → Says
@@ -77,21 +81,23 @@ unfoldable pub last : Counts → List ℕ → ℕ → Ran → List ℕ → Says
 last c table kind ran store =
     cond (ran .fits) (ended (kind-of kind) c table (ran .steps) (decoded (set-width c) (ran .terms) store)) (answers 2 ((ran .steps + 1) ∷ ran .terms ∷ []))
 
--- the outcome: the verdict, the polynomial held, and the log
-pub record Decided (c : Counts) (table : List ℕ) (kind limit : ℕ) (order store scratch : List ℕ) (log : List StepRecord)
-    (r : Answer) (store′ scratch′ : List ℕ) (log′ : List StepRecord) : Type 0 where
+-- the outcome: the verdict, the polynomial held, the log, and the occurrences
+pub record Decided (c : Counts) (table : List ℕ) (kind limit : ℕ) (order store scratch : List ℕ) (log : List StepRecord) (occurrences : List ℕ)
+    (r : Answer) (store′ scratch′ : List ℕ) (log′ : List StepRecord) (occurrences′ : List ℕ) : Type 0 where
   pub said : says r ≡ verdict (kind-of kind) c table limit order
   pub store-words :
       store′ ≡ padded (length store) (polynomial-words (set-width c) (held limit (run (kind-of kind) c table order)))
   pub scratch-words : scratch′ ≡ replicate (length scratch) 0
   pub log-records : log′ ≡ over (completed limit (run (kind-of kind) c table order)) (records order (run (kind-of kind) c table order)) log
+  pub occurrence-words : occurrences′ ≡ with-occurrences c (held limit (run (kind-of kind) c table order)) occurrences
 
 -- a log for the most variables of the desk program, with nothing in it
 abbrev pub blank-log : List StepRecord
 blank-log = replicate 127 (record { gate = 0; terms = 0 })
 
 -- the permitted outcome of the judge, but for the log
-pub record Unlogged (x : Inputs) (r : Answer) (store scratch : List ℕ) : Type 0 where
+pub record Unlogged (x : Inputs) (r : Answer) (store scratch occurrences : List ℕ) : Type 0 where
   pub said : says r ≡ judging x
   pub store-words : store ≡ store-after x
   pub scratch-words : scratch ≡ scratch-after x
+  pub occurrence-words : occurrences ≡ occurrences-after x

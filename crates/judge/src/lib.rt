@@ -16,7 +16,8 @@ ghost use Rattle.rules.specs.Judging.{Judged};
 ghost use Rattle.judge.specs.Deciding.{handed};
 
 // The answer to a block under a reading, by an order of steps and a limit of terms, or the first refusal in the order of checks. The
-// last polynomial is left in the store, zeros in scratch, and a record of each step completed in the log.
+// last polynomial is left in the store, zeros in scratch, a record of each step completed in the log, and in front of `occurrences` the
+// number of terms, and of those that hold each variable.
 pub fn judge(
     c: Counts,
     table: &[u32],
@@ -26,10 +27,21 @@ pub fn judge(
     store: &mut [u64],
     scratch: &mut [u64],
     log: &mut [StepRecord],
+    occurrences: &mut [u32],
 ) -> Answer
-    ensures { λ r. ⌜ Judged (handed c (now (table .entry)) kind limit (now (order .entry)) (now (store .entry)) (now (scratch .entry)) (now (log .entry))) r (now (store .exit)) (now (scratch .exit)) (now (log .exit)) ⌝ }
+    ensures { λ r. ⌜ Judged (handed c (now (table .entry)) kind limit (now (order .entry)) (now (store .entry)) (now (scratch .entry)) (now (log .entry)) (now (occurrences .entry))) r (now (store .exit)) (now (scratch .exit)) (now (log .exit)) (now (occurrences .exit)) ⌝ }
 {
-    let outset = set_out(c, table, kind, limit, order, log.len(), store, scratch);
+    let outset = set_out(
+        c,
+        table,
+        kind,
+        limit,
+        order,
+        log.len(),
+        store,
+        scratch,
+        occurrences,
+    );
     if !outset.begun {
         return stopped(outset.number);
     }
@@ -42,6 +54,7 @@ pub fn judge(
         store,
         scratch,
         log,
+        occurrences,
     );
     closed(c, table, kind, ran, store)
 }

@@ -30,15 +30,16 @@ pub fn run(
     store: &mut [u64],
     scratch: &mut [u64],
     log: &mut [StepRecord],
+    occurrences: &mut [u32],
 ) -> Ran
-    requires { ⌜ Running c (now table) limit held (decoded (set-width c) held (now store)) (now store) (now scratch) × (every (is-gate c) (now order) ≡ true) × (length (now order) ≤ length (now log)) ⌝ }
-    ensures { λ r. ⌜ Finished c limit (now (order .entry)) (trail (2 ^ c .o) c (now (table .entry)) (decoded (set-width c) held (now (store .entry))) (now (order .entry))) (now (store .entry)) (now (scratch .entry)) (now (log .entry)) r (now (store .exit)) (now (scratch .exit)) (now (log .exit)) ⌝ }
+    requires { ⌜ Running c (now table) limit held (decoded (set-width c) held (now store)) (now store) (now scratch) (now occurrences) × (every (is-gate c) (now order) ≡ true) × (length (now order) ≤ length (now log)) ⌝ }
+    ensures { λ r. ⌜ Finished c limit (now (order .entry)) (trail (2 ^ c .o) c (now (table .entry)) (decoded (set-width c) held (now (store .entry))) (now (order .entry))) (now (store .entry)) (now (scratch .entry)) (now (log .entry)) (now (occurrences .entry)) r (now (store .exit)) (now (scratch .exit)) (now (log .exit)) (now (occurrences .exit)) ⌝ }
 {
     let mut left = held;
     let mut k: usize = 0;
     while k < order.len() {
         let v = order[k];
-        let t = take_turn(c, table, v, limit, left, store, scratch);
+        let t = take_turn(c, table, v, limit, left, store, scratch, occurrences);
         if !t.fits {
             return Ran {
                 fits: false,

@@ -15,7 +15,8 @@ pub struct Turn {
     pub terms: usize,
 }
 
-// The step of gate v on the `held` terms of the store. Without room for the terms after it, store and terms stay as they were.
+// The step of gate v on the `held` terms of the store, and its numbers. Without room for the terms after it, store, terms and numbers stay
+// as they were.
 pub fn take_turn(
     c: Counts,
     table: &[u32],
@@ -24,15 +25,27 @@ pub fn take_turn(
     held: usize,
     store: &mut [u64],
     scratch: &mut [u64],
+    occurrences: &mut [u32],
 ) -> Turn
-    requires { ⌜ Running c (now table) limit held (decoded (set-width c) held (now store)) (now store) (now scratch)
+    requires { ⌜ Running c (now table) limit held (decoded (set-width c) held (now store)) (now store) (now scratch) (now occurrences)
         × (c .i < v) × (v ≤ c .m) ⌝ }
     ensures { λ r. ⌜ Turned c limit held v (rule.step (2 ^ c .o) c (now (table .entry)) v (decoded (set-width c) held (now (store .entry))))
-        (now (store .entry)) (now (scratch .entry)) r (now (store .exit)) (now (scratch .exit)) ⌝ }
+        (now (store .entry)) (now (scratch .entry)) (now (occurrences .entry)) r (now (store .exit)) (now (scratch .exit)) (now (occurrences .exit)) ⌝ }
 {
     let w = (c.m / 64 + 1) as usize;
     let r = record_at(c, table, v);
-    let terms = step(w, c.o, v, r, limit, held, store, scratch);
+    let end = c.m as usize + 1;
+    let terms = step(
+        w,
+        c.o,
+        v,
+        r,
+        limit,
+        held,
+        store,
+        scratch,
+        &mut occurrences[..end],
+    );
     if terms > limit {
         return Turn {
             fits: false,

@@ -14,9 +14,20 @@ pub fn judge_unlogged(
     order: &[u32],
     store: &mut [u64],
     scratch: &mut [u64],
+    occurrences: &mut [u32],
 ) -> Answer
-    ensures { λ r. ⌜ Unlogged (handed c (now (table .entry)) kind limit (now (order .entry)) (now (store .entry)) (now (scratch .entry)) blank-log) r (now (store .exit)) (now (scratch .exit)) ⌝ }
+    ensures { λ r. ⌜ Unlogged (handed c (now (table .entry)) kind limit (now (order .entry)) (now (store .entry)) (now (scratch .entry)) blank-log (now (occurrences .entry))) r (now (store .exit)) (now (scratch .exit)) (now (occurrences .exit)) ⌝ }
 {
     let mut log = [StepRecord { gate: 0, terms: 0 }; 127];
-    judge(c, table, kind, limit, order, store, scratch, &mut log)
+    judge(
+        c,
+        table,
+        kind,
+        limit,
+        order,
+        store,
+        scratch,
+        &mut log,
+        occurrences,
+    )
 }

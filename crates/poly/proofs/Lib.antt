@@ -5,4 +5,5 @@ pub mod Tables
 pub mod Restored
 pub mod Woven
 pub mod Settled
+pub mod Numbered
 pub mod Placed

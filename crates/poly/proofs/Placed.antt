@@ -4,12 +4,14 @@ use mathlib.Core.Bool.{Bool, true, false, _&&_, false≢true}
 use mathlib.Core.List.{List, _++_}
 use mathlib.Core.Logic.{⊎-elim}
 use Prim.Native.Nat.{ℕ, zero, suc, _+_, _-_, _*_, _^_, _<_, _≤_}
+use native.Mathlib.Nat.{zero-add}
 use native.Mathlib.Omega.{arith}
 use lib.Dec.{leb, ltb}
 use lib.ListN.{length, getD, drop}
 use lib.Pow.{pow-mono}
 use borrow.Author.Tests.{leb-true, ltb-true, le-leb, lt-leb}
 use Rattle.rules.specs.Judging.{polynomial-words, padded}
+use Rattle.rules.specs.Occurrences.{occurring}
 use Rattle.rules.specs.Polynomial.{Polynomial, Below, gather}
 use Rattle.rules.specs.Values.{bit}
 use Rattle.rules.proofs.Bits.{bit-cases}
@@ -22,8 +24,12 @@ use Rattle.weave.specs.declared.weaving.Sizes.{Sizes}
 use Rattle.weave.proofs.Falling.{below-drop, coefficients-drop}
 use Rattle.weave.proofs.Tops.{first-below, all-below, free-behind}
 use Rattle.weave.proofs.Without.{without-held, without-rest}
-use Rattle.splice.specs.Splicing.{Splicing, spliced}
-use Rattle.poly.specs.Stepping.{Both, Together, in-place}
+use Rattle.splice.specs.Splicing.{Splicing, terms-left, spliced}
+use Rattle.tally.specs.Marks.{Counting, Marked, Moved, Renumbered}
+use Rattle.tally.proofs.Marking.{counting-front, occurring-rest}
+use Rattle.tally.proofs.Moving.{moved-add, moved-gone}
+use Rattle.poly.proofs.Numbered.{counting-old}
+use Rattle.poly.specs.Stepping.{Both, Numbering, Together, in-place}
 
 -- what being put in place says
 pub record Placed (z : Sizes) (store : List ℕ) : Type 0 where
@@ -80,13 +86,13 @@ first-low z store scratch h =
     let l : num (words-at store 1 (z .w)) < 2 ^ (64 * z .k) = first-below (2 ^ (64 * z .k)) (z .w) (z .n) store (omega (arith, h .some, h .task .end-in)) (h .task .falls) in
     omega (arith, pow-mono {i = 64 * z .k} {j = 64 * z .w} m)
 
-module _ (z : Sizes) (store scratch : List ℕ) (h : Both z store scratch) (q : Placed z store) where
+module _ (z : Sizes) (store scratch : List ℕ) (h : Both z store scratch) (q : Placed z store) {lent : ℕ} (named : Numbering z store scratch lent) where
   -- the rest of the store's terms
   rest-terms : decoded (z .w) (z .n - z .end) (drop (z .end * (z .w + 1)) store) ≡ drop (z .end) (old-terms z store)
   rest-terms = sym (decoded-drop (z .w) (z .end) (z .n) store (h .task .end-in))
 
   -- what putting the new ones among them asks
-  pub to-splice : Splicing z store scratch (z .end) 0 0
+  pub to-splice : Splicing z store scratch lent (z .end) 0 0
   to-splice = record {
     room = h .task .room;
     store-room = h .store-room;
@@ -102,6 +108,8 @@ module _ (z : Sizes) (store scratch : List ℕ) (h : Both z store scratch) (q : 
     coefficients = rw rest-terms (coefficients-drop (2 ^ z .l) (z .end) (old-terms z store) (h .task .coefficients));
     new-falls = h .task .new-falls;
     new-coefficients = h .task .new-coefficients;
+    some-number = named .some;
+    new-numbered = named .new;
   }
 
   -- and what it leaves is both lists
@@ -114,3 +122,21 @@ module _ (z : Sizes) (store scratch : List ℕ) (h : Both z store scratch) (q : 
   together-placed r store′ e l s =
       let t : leb (length (gather (2 ^ z .l) (without (z .v) (old-terms z store) ++ new-terms z scratch))) (z .limit) ≡ true = le-leb (length (gather (2 ^ z .l) (without (z .v) (old-terms z store) ++ new-terms z scratch))) (z .limit) (rw (← same, ← e) l) in
       record { counted = rw t (e ∙ ap length same); stored = rw (t, ← same) s; kept = refl }
+
+  -- what is asked to count the terms in front
+  pub to-count : Counting store (z .end) (z .w) (z .k) lent
+  to-count = counting-front (counting-old z store scratch h named) (z .end) (h .task .end-in)
+
+  -- these go, and then the new terms come
+  pub numbers-placed : (r : ℕ) (n₀ n₁ n₂ : List ℕ) → r ≡ length (spliced z store scratch (z .end) 0) → r ≤ z .limit
+      → Marked 4294967295 (occurring (decoded (z .w) (z .end) store)) n₀ n₁
+      → Moved (occurring (terms-left z store (z .end))) (occurring (spliced z store scratch (z .end) 0)) n₁ n₂
+      → Renumbered (z .limit) (old-terms z store) (gather (2 ^ z .l) (without (z .v) (old-terms z store) ++ new-terms z scratch)) n₀ n₂
+  numbers-placed r n₀ n₁ n₂ e l gone come =
+      let few : length (gather (2 ^ z .l) (without (z .v) (old-terms z store) ++ new-terms z scratch)) ≤ z .limit = rw (← same, ← e) l in
+      let rest : (u : ℕ) → occurring (old-terms z store) u ≡ occurring (decoded (z .w) (z .end) store) u + occurring (terms-left z store (z .end)) u =
+      λ u. rw rest-terms (occurring-rest (counting-old z store scratch h named) (z .end) (h .task .end-in) u) in
+      record {
+        moved = λ d. rw (← same) (moved-add rest (λ u. sym (zero-add _)) (moved-gone (λ u. refl) gone) come);
+        stayed = λ d. absurd (omega arith);
+      }

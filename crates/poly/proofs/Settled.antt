@@ -29,6 +29,8 @@ use Rattle.weave.specs.Weaving.{old-terms, Joined}
 use Rattle.weave.specs.Written.{Kept}
 use Rattle.weave.proofs.Growing.{behind-limit, kept-behind}
 use Rattle.weave.proofs.Places.{set-below}
+use Rattle.tally.specs.Marks.{Renumbered}
+use Rattle.tally.proofs.Moving.{moved-same}
 use Rattle.poly.specs.Stepping.{Prepared, Both, Together, Ready, Stepped}
 use Rattle.gates.specs.declared.apart.Variables.{Variables}
 use Rattle.weave.specs.declared.weaving.Parts.{Parts}
@@ -147,15 +149,15 @@ scratch-front z store scratch b = omega (arith, b .task .scratch-room, add-mul (
 module _ (z : Sizes) (r : Parts) (q : Polynomial) (store scratch made store′ scratch′ : List ℕ) (b : Both z store scratch) (g : Joined (z .limit) q (old-terms z store) r (decoded (z .w) (r .out) made))
     (t : Kept (z .w) (z .limit) (r .out) scratch made) (lm : length made ≡ length scratch) where
   -- the terms left are terms of the store
-  left-in : r .at ≤ z .n
+  pub left-in : r .at ≤ z .n
   left-in = at-in z r q (decoded (z .w) (r .out) made) store g
 
   -- both parts are all terms
-  counted : r .out ≤ z .limit → length q ≡ r .out + (z .n - r .at)
+  pub counted : r .out ≤ z .limit → length q ≡ r .out + (z .n - r .at)
   counted h = ap length (sym (g .fits h)) ∙ simp (length-append, length-drop) (omega (arith, length-decoded (z .w) (z .n) store, length-decoded (z .w) (r .out) made))
 
   -- the terms in front of scratch lie inside
-  front-in : r .out ≤ z .limit → r .out * (z .w + 1) ≤ length made
+  pub front-in : r .out ≤ z .limit → r .out * (z .w + 1) ≤ length made
   front-in h = omega (arith, scratch-front z store scratch b, mul-le-mul-right (z .w + 1) h, lm)
 
   -- what putting both parts together asks
@@ -194,7 +196,7 @@ module _ (z : Sizes) (r : Parts) (q : Polynomial) (store scratch made store′ s
       }
 
   -- where both parts are more than the limit, so are all terms
-  more : (u : Bool) → ltb (z .limit) (r .out) ≡ u → z .limit < r .out + (z .n - r .at) → z .limit < length q
+  pub more : (u : Bool) → ltb (z .limit) (r .out) ≡ u → z .limit < r .out + (z .n - r .at) → z .limit < length q
   more true d h = g .full (ltb-true (z .limit) (r .out) d)
   more false d h = rw (counted (ltb-false (z .limit) (r .out) d)) h
 
@@ -210,11 +212,23 @@ module _ (z : Sizes) (r : Parts) (q : Polynomial) (store scratch made store′ s
         kept = front-again (z .limit * (z .w + 1)) (z .limit * (z .w + 1)) scratch made scratch′ (omega arith) (b .clean) k (rw (sub-zero (z .limit * (z .w + 1))) at c);
       }
 
--- v does not occur: the step changes nothing
+-- v does not occur: the step changes nothing of the terms
+absent-same : (w l v : ℕ) (r : Record) (limit held : ℕ) (store scratch : List ℕ) → Ready w l v r limit held store scratch → (end : ℕ) → Last v (decoded w held store) end → end ≡ 0
+    → gather (2 ^ l) (all-replaced (2 ^ l) v r (decoded w held store)) ≡ decoded w held store
+absent-same w l v r limit held store scratch h end o z =
+    step-absent (2 ^ l) v r (2 ^ (64 * w)) (decoded w held store) (pow-pos l) (h .falls) (h .coefficients) (rw z at (o .free))
+
+-- nor of the numbers
+pub numbers-same : (w l v : ℕ) (r : Record) (limit held : ℕ) (store scratch numbers : List ℕ) → Ready w l v r limit held store scratch → (end : ℕ) → Last v (decoded w held store) end → end ≡ 0
+    → Renumbered limit (decoded w held store) (gather (2 ^ l) (all-replaced (2 ^ l) v r (decoded w held store))) numbers numbers
+numbers-same w l v r limit held store scratch numbers h end o z =
+    record { moved = λ few. moved-same (λ u. rw (absent-same w l v r limit held store scratch h end o z)); stayed = λ many. refl }
+
+-- nor of the store
 pub stepped-same : (w l v : ℕ) (r : Record) (limit held : ℕ) (store scratch : List ℕ) → Ready w l v r limit held store scratch → (end : ℕ) → Last v (decoded w held store) end → end ≡ 0
     → Stepped w limit (gather (2 ^ l) (all-replaced (2 ^ l) v r (decoded w held store))) store scratch held store scratch
 stepped-same w l v r limit held store scratch h end o z =
-    let e : gather (2 ^ l) (all-replaced (2 ^ l) v r (decoded w held store)) ≡ decoded w held store = step-absent (2 ^ l) v r (2 ^ (64 * w)) (decoded w held store) (pow-pos l) (h .falls) (h .coefficients) (rw z at (o .free)) in
+    let e = absent-same w l v r limit held store scratch h end o z in
     let t : leb (length (decoded w held store)) limit ≡ true = le-leb _ limit (omega (arith, length-decoded w held store, h .held-most)) in
     record {
       counted = rw (e, t) (sym (length-decoded w held store));

@@ -22,9 +22,12 @@ use Rattle.weave.specs.Written.{Gathered, Kept}
 use Rattle.weave.specs.Weaving.{holding, without}
 use Rattle.weave.specs.declared.weaving.Sizes.{Sizes}
 use Rattle.weave.proofs.Falling.{below-front, coefficients-take}
-use Rattle.poly.specs.Stepping.{Fit, Prepared, Both, Together, Stepped}
+use Rattle.tally.specs.Marks.{Renumbered}
+use Rattle.tally.proofs.Numbering.{numbered-gather, numbered-replaced}
+use Rattle.poly.specs.Stepping.{Fit, Prepared, Both, Numbering, Numberable, Together, Stepped}
 use Rattle.merge.specs.declared.streams.Gate.{Gate}
 use Rattle.poly.proofs.Parts.{holding-front, step-parts, step-more}
+use Rattle.poly.proofs.Numbered.{numbered-holding}
 use Rattle.poly.proofs.Restored.{zeros-again, written, part-there, front-zeros, restored}
 
 module _ (store : List ℕ) (n w : ℕ) (g : Gate) (r : Record) (row : List ℤ) (end : ℕ) (scratch : List ℕ) (limit : ℕ) (h : Prepared store n w g r row end scratch limit) where
@@ -127,11 +130,29 @@ module _ (store : List ℕ) (n w : ℕ) (g : Gate) (r : Record) (row : List ℤ)
       clean = front-zeros (limit * (w + 1)) scratch part s1 room part-length e1 (h .clean);
     }
 
-    -- too many were made: so are those of the step, and scratch is zeros again
+    -- the variables of both lists have numbers
+    pub numbering : {lent : ℕ} → Numberable lent (g .v) r (decoded w n store) → made ≤ 2 * limit → Numbering sizes store s1 lent
+    numbering {lent} named l =
+        record {
+          some = omega (arith, named .v-in);
+          old = named .numbered;
+          new = rw (there, gs .fits l, same)
+              (numbered-gather lent (2 ^ g .l) (all-replaced (2 ^ g .l) (g .v) r (holding (g .v) (decoded w n store)))
+              (numbered-replaced lent (2 ^ g .l) (g .v) r (holding (g .v) (decoded w n store)) (named .v-in) (named .low) (numbered-holding lent (g .v) (decoded w n store) (named .numbered))));
+        }
+
+    -- too many were made: so are those of the step
+    step-many : 2 * limit < made → limit < length (gather (2 ^ g .l) (all-replaced (2 ^ g .l) (g .v) r (decoded w n store)))
+    step-many l = step-more (2 ^ g .l) (g .v) r limit (decoded w n store) (pow-pos (g .l)) (omega (arith, length-decoded w n store, h .few)) (rw same at (gs .full l))
+
+    -- no number changes
+    pub numbers-many : (numbers : List ℕ) → 2 * limit < made → Renumbered limit (decoded w n store) (gather (2 ^ g .l) (all-replaced (2 ^ g .l) (g .v) r (decoded w n store))) numbers numbers
+    numbers-many numbers l = record { moved = λ few. absurd (omega (arith, step-many l)); stayed = λ many. refl }
+
+    -- and scratch is zeros again
     pub step-full : 2 * limit < made → Stepped w limit (gather (2 ^ g .l) (all-replaced (2 ^ g .l) (g .v) r (decoded w n store))) store scratch (limit + 1) store s1
     step-full l =
-        let m : limit < length (gather (2 ^ g .l) (all-replaced (2 ^ g .l) (g .v) r (decoded w n store))) = step-more (2 ^ g .l) (g .v) r limit (decoded w n store) (pow-pos (g .l)) (omega (arith, length-decoded w n store, h .few)) (rw same at (gs .full l)) in
-        let u : leb (length (gather (2 ^ g .l) (all-replaced (2 ^ g .l) (g .v) r (decoded w n store)))) limit ≡ false = lt-leb _ limit m in
+        let u : leb (length (gather (2 ^ g .l) (all-replaced (2 ^ g .l) (g .v) r (decoded w n store)))) limit ≡ false = lt-leb _ limit (step-many l) in
         let e : part ≡ drop (limit * (w + 1)) scratch = zeros-again (limit * (w + 1)) (2 * limit * (w + 1)) scratch part (h .clean) rooms (bs .many l ∙ ap (λ (s : List ℕ). replicate (2 * limit * (w + 1)) 0 ++ drop (2 * limit * (w + 1)) s) before) in
         record {
           counted = rw u refl;
@@ -139,15 +160,19 @@ module _ (store : List ℕ) (n w : ℕ) (g : Gate) (r : Record) (row : List ℤ)
           cleared = written (limit * (w + 1)) scratch part s1 room part-length e1 ∙ ap (λ (s : List ℕ). take (limit * (w + 1)) scratch ++ s) e ∙ take-append-drop (limit * (w + 1)) scratch ∙ h .clean;
         }
 
-    -- the terms put together are those of the step, and what was made is cleared
+    -- the terms put together are those of the step
+    pub step-terms : made ≤ 2 * limit → gather (2 ^ g .l) (without (g .v) (decoded w n store) ++ decoded w made (drop (limit * (w + 1)) s1)) ≡ gather (2 ^ g .l) (all-replaced (2 ^ g .l) (g .v) r (decoded w n store))
+    step-terms l =
+        let new : decoded w made (drop (limit * (w + 1)) s1) ≡ gather (2 ^ g .l) (all-replaced (2 ^ g .l) (g .v) r (holding (g .v) (decoded w n store))) = rw (there, ← same) (gs .fits l) in
+        ap (λ (q : Polynomial). gather (2 ^ g .l) (without (g .v) (decoded w n store) ++ q)) new ∙ step-parts (2 ^ g .l) (g .v) r (pow-pos (g .l)) (decoded w n store)
+
+    -- and what was made is cleared
     pub step-fits : made ≤ 2 * limit → (o : ℕ) (store′ s2 s3 : List ℕ)
         → Together sizes (gather (2 ^ g .l) (without (g .v) (decoded w n store) ++ decoded w made (drop (limit * (w + 1)) s1))) store s1 o store′ s2
         → s3 ≡ take (limit * (w + 1)) s2 ++ (replicate (limit * (w + 1) + made * (w + 1) - limit * (w + 1)) 0 ++ drop (limit * (w + 1) + made * (w + 1)) s2)
         → Stepped w limit (gather (2 ^ g .l) (all-replaced (2 ^ g .l) (g .v) r (decoded w n store))) store scratch o store′ s3
     step-fits l o store′ s2 s3 t e3 =
-        let new : decoded w made (drop (limit * (w + 1)) s1) ≡ gather (2 ^ g .l) (all-replaced (2 ^ g .l) (g .v) r (holding (g .v) (decoded w n store))) = rw (there, ← same) (gs .fits l) in
-        let e : gather (2 ^ g .l) (without (g .v) (decoded w n store) ++ decoded w made (drop (limit * (w + 1)) s1)) ≡ gather (2 ^ g .l) (all-replaced (2 ^ g .l) (g .v) r (decoded w n store)) =
-        ap (λ (q : Polynomial). gather (2 ^ g .l) (without (g .v) (decoded w n store) ++ q)) new ∙ step-parts (2 ^ g .l) (g .v) r (pow-pos (g .l)) (decoded w n store) in
+        let e = step-terms l in
         record {
           counted = rw e at (t .counted);
           stored = rw e at (t .stored);

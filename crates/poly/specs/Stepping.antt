@@ -13,7 +13,8 @@ use Rattle.rules.specs.declared.records.Record.{Record}
 use Rattle.words.specs.Numbers.{num, words-at}
 use Rattle.words.specs.Stored.{decoded}
 use Rattle.weave.specs.Seeking.{Last}
-use Rattle.weave.specs.Weaving.{Task, old-terms}
+use Rattle.tally.specs.Marks.{Numbered}
+use Rattle.weave.specs.Weaving.{Task, old-terms, new-terms}
 use Rattle.weave.specs.declared.weaving.Sizes.{Sizes}
 use Rattle.gates.specs.Apart.{Apart}
 use Rattle.gates.specs.Rows.{row-of}
@@ -62,6 +63,12 @@ pub record Both (z : Sizes) (store scratch : List ℕ) : Type 0 where
   pub behind : drop (z .n * (z .w + 1)) store ≡ replicate (length store - z .n * (z .w + 1)) 0
   pub clean : take (z .limit * (z .w + 1)) scratch ≡ replicate (z .limit * (z .w + 1)) 0
 
+-- the variables of both lists have numbers
+pub record Numbering (z : Sizes) (store scratch : List ℕ) (lent : ℕ) : Type 0 where
+  pub some : 0 < lent
+  pub old : Numbered lent (old-terms z store)
+  pub new : Numbered lent (new-terms z scratch)
+
 -- the new terms are put in place where they are few, there is room for all terms, and no variable is above v
 unfoldable pub in-place : Sizes → List ℕ → Bool
 in-place z store = leb (z .made) 16 && (leb (z .n - z .end + z .made) (z .limit) && ltb (num (words-at store 1 (z .w))) (2 ^ (z .v + 1)))
@@ -88,6 +95,12 @@ pub record Ready (w l v : ℕ) (r : Record) (limit held : ℕ) (store scratch : 
   pub coefficients : Coefficients (2 ^ l) (decoded w held store)
   pub kept : store ≡ padded (length store) (polynomial-words w (decoded w held store))
   pub clean : scratch ≡ replicate (length scratch) 0
+
+-- the variables of p, of the gate and of its record have numbers
+pub record Numberable (lent v : ℕ) (r : Record) (p : Polynomial) : Type 0 where
+  pub v-in : v < lent
+  pub low : EveryVariable (λ u. u < v) r
+  pub numbered : Numbered lent p
 
 -- what a step to the polynomial q leaves: where q has at most `limit` terms, their number, and the words of q in the store; else
 -- limit + 1, and the store as it was. Scratch is zeros.

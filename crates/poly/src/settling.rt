@@ -8,7 +8,10 @@ ghost use lib.ListN.{length, take, drop, replicate};
 ghost use Rattle.rules.specs.Polynomial.{gather};
 ghost use Rattle.words.specs.Numbers.{num, words-at};
 ghost use Rattle.weave.specs.Weaving.{without, old-terms, new-terms};
-ghost use Rattle.poly.specs.Stepping.{Both, Together, in-place};
+ghost use Rattle.tally.specs.Marks.{Renumbered};
+ghost use Rattle.poly.specs.Stepping.{Both, Numbering, Together, in-place};
+use tally::mark_all;
+use tally::mark_difference;
 use weave::weaving::Sizes;
 
 fn larger(a: usize, b: usize) -> usize
@@ -67,10 +70,11 @@ fn settle(store: &mut [u64], n: usize, w: usize, scratch: &mut [u64], at: usize,
 }
 
 // Both lists gathered in the store by way of scratch: how many terms it then holds; limit + 1, and the store as it was, if there would
-// be more than `limit`. Scratch is as it was.
-fn woven(store: &mut [u64], z: Sizes, scratch: &mut [u64]) -> usize
-    requires { ⌜ Both z (now store) (now scratch) ⌝ }
-    ensures { λ r. ⌜ Together z (gather (2 ^ z .l) (without (z .v) (old-terms z (now (store .entry))) ++ new-terms z (now (scratch .entry)))) (now (store .entry)) (now (scratch .entry)) r (now (store .exit)) (now (scratch .exit)) ⌝ }
+// be more than `limit`. Scratch is as it was, and the numbers are those of what the store holds.
+fn woven(store: &mut [u64], z: Sizes, scratch: &mut [u64], numbers: &mut [u32]) -> usize
+    requires { ⌜ Both z (now store) (now scratch) × Numbering z (now store) (now scratch) (length (now numbers)) ⌝ }
+    ensures { λ r. ⌜ Together z (gather (2 ^ z .l) (without (z .v) (old-terms z (now (store .entry))) ++ new-terms z (now (scratch .entry)))) (now (store .entry)) (now (scratch .entry)) r (now (store .exit)) (now (scratch .exit))
+        × Renumbered (z .limit) (old-terms z (now (store .entry))) (gather (2 ^ z .l) (without (z .v) (old-terms z (now (store .entry))) ++ new-terms z (now (scratch .entry)))) (now (numbers .entry)) (now (numbers .exit)) ⌝ }
 {
     let p = weave::weaving::weave(store, z, scratch);
     let held = p.out + (z.n - p.at);
@@ -78,6 +82,7 @@ fn woven(store: &mut [u64], z: Sizes, scratch: &mut [u64]) -> usize
         words::stretches::clear(scratch, 0, z.limit * (z.w + 1));
         return z.limit + 1;
     }
+    mark_difference(store, p.at, scratch, p.out, z.w, z.k, numbers);
     settle(store, z.n, z.w, scratch, p.at, p.out);
     held
 }
@@ -101,13 +106,15 @@ fn goes_in_place(store: &[u64], z: Sizes) -> bool
 }
 
 // Both lists gathered in the store: how many terms it then holds; limit + 1, and the store as it was, if there would be more than
-// `limit`. Scratch is as it was.
-pub fn put_together(store: &mut [u64], z: Sizes, scratch: &mut [u64]) -> usize
-    requires { ⌜ Both z (now store) (now scratch) ⌝ }
-    ensures { λ r. ⌜ Together z (gather (2 ^ z .l) (without (z .v) (old-terms z (now (store .entry))) ++ new-terms z (now (scratch .entry)))) (now (store .entry)) (now (scratch .entry)) r (now (store .exit)) (now (scratch .exit)) ⌝ }
+// `limit`. Scratch is as it was, and the numbers are those of what the store holds.
+pub fn put_together(store: &mut [u64], z: Sizes, scratch: &mut [u64], numbers: &mut [u32]) -> usize
+    requires { ⌜ Both z (now store) (now scratch) × Numbering z (now store) (now scratch) (length (now numbers)) ⌝ }
+    ensures { λ r. ⌜ Together z (gather (2 ^ z .l) (without (z .v) (old-terms z (now (store .entry))) ++ new-terms z (now (scratch .entry)))) (now (store .entry)) (now (scratch .entry)) r (now (store .exit)) (now (scratch .exit))
+        × Renumbered (z .limit) (old-terms z (now (store .entry))) (gather (2 ^ z .l) (without (z .v) (old-terms z (now (store .entry))) ++ new-terms z (now (scratch .entry)))) (now (numbers .entry)) (now (numbers .exit)) ⌝ }
 {
     if goes_in_place(store, z) {
-        return splice::splicing::splice_all(store, z, scratch);
+        mark_all(store, z.end, z.w, z.k, 4294967295, numbers);
+        return splice::splicing::splice_all(store, z, scratch, numbers);
     }
-    woven(store, z, scratch)
+    woven(store, z, scratch, numbers)
 }

@@ -5,7 +5,8 @@ ghost use Rattle.rules.specs.Polynomial.{Below, gather};
 ghost use Rattle.rules.specs.Steps.{all-replaced};
 ghost use Rattle.words.specs.Stored.{decoded};
 ghost use Rattle.weave.specs.Written.{Gathered, Kept};
-ghost use Rattle.poly.specs.Stepping.{Fit, Ready, Prepared, Stepped};
+ghost use Rattle.poly.specs.Stepping.{Fit, Ready, Prepared, Numberable, Stepped};
+ghost use Rattle.tally.specs.Marks.{Renumbered};
 ghost use Rattle.weave.specs.Weaving.{holding};
 use gates::apart::Variables;
 use merge::streams::Gate;
@@ -56,9 +57,11 @@ fn replace(
     end: usize,
     scratch: &mut [u64],
     limit: usize,
+    numbers: &mut [u32],
 ) -> usize
-    requires { ⌜ Prepared (now store) n w g r (now row) end (now scratch) limit ⌝ }
-    ensures { λ o. ⌜ Stepped w limit (gather (2 ^ g .l) (all-replaced (2 ^ g .l) (g .v) r (decoded w n (now (store .entry))))) (now (store .entry)) (now (scratch .entry)) o (now (store .exit)) (now (scratch .exit)) ⌝ }
+    requires { ⌜ Prepared (now store) n w g r (now row) end (now scratch) limit × Numberable (length (now numbers)) (g .v) r (decoded w n (now store)) ⌝ }
+    ensures { λ o. ⌜ Stepped w limit (gather (2 ^ g .l) (all-replaced (2 ^ g .l) (g .v) r (decoded w n (now (store .entry))))) (now (store .entry)) (now (scratch .entry)) o (now (store .exit)) (now (scratch .exit))
+        × Renumbered limit (decoded w n (now (store .entry))) (gather (2 ^ g .l) (all-replaced (2 ^ g .l) (g .v) r (decoded w n (now (store .entry))))) (now (numbers .entry)) (now (numbers .exit)) ⌝ }
 {
     let stride = w + 1;
     let base = limit * stride;
@@ -77,13 +80,14 @@ fn replace(
         made,
         limit,
     };
-    let held = crate::settling::put_together(store, sizes, scratch);
+    let held = crate::settling::put_together(store, sizes, scratch, numbers);
     words::stretches::clear(scratch, base, base + made * stride);
     held
 }
 
 // The step of gate v with the record r in the store, w words to a set and l bits to a coefficient: how many terms it then holds;
-// limit + 1, and the store as it was, if there would be more than `limit`. Scratch is zeros before and after.
+// limit + 1, and the store as it was, if there would be more than `limit`. Scratch is zeros before and after, and the numbers go on with
+// the terms held.
 pub fn step(
     w: usize,
     l: u32,
@@ -93,9 +97,11 @@ pub fn step(
     held: usize,
     store: &mut [u64],
     scratch: &mut [u64],
+    numbers: &mut [u32],
 ) -> usize
-    requires { ⌜ Ready w l v r limit held (now store) (now scratch) ⌝ }
-    ensures { λ o. ⌜ Stepped w limit (gather (2 ^ l) (all-replaced (2 ^ l) v r (decoded w held (now (store .entry))))) (now (store .entry)) (now (scratch .entry)) o (now (store .exit)) (now (scratch .exit)) ⌝ }
+    requires { ⌜ Ready w l v r limit held (now store) (now scratch) × Numberable (length (now numbers)) v r (decoded w held (now store)) ⌝ }
+    ensures { λ o. ⌜ Stepped w limit (gather (2 ^ l) (all-replaced (2 ^ l) v r (decoded w held (now (store .entry))))) (now (store .entry)) (now (scratch .entry)) o (now (store .exit)) (now (scratch .exit))
+        × Renumbered limit (decoded w held (now (store .entry))) (gather (2 ^ l) (all-replaced (2 ^ l) v r (decoded w held (now (store .entry))))) (now (numbers .entry)) (now (numbers .exit)) ⌝ }
 {
     let gate = v as usize;
     let end = weave::seeking::last_holding(store, held, w, gate);
@@ -113,5 +119,5 @@ pub fn step(
         l,
         k,
     };
-    replace(store, held, w, g, r, &row, end, scratch, limit)
+    replace(store, held, w, g, r, &row, end, scratch, limit, numbers)
 }

@@ -101,13 +101,14 @@ read-one {r = r} {q = q} x y =
     (text-known r q (x .records ∙ sym (y .records)) (x .said ∙ sym (y .said)), x .table-words ∙ sym (y .table-words))
 
 -- one outcome of judging
-pub judged-one : {x : Inputs} {r q : Answer} {s w s′ w′ : List ℕ} {g g′ : List StepRecord} → Judged x r s w g → Judged x q s′ w′ g′
-    → (r ≡ q) × (s ≡ s′) × (w ≡ w′) × (g ≡ g′)
+pub judged-one : {x : Inputs} {r q : Answer} {s w n s′ w′ n′ : List ℕ} {g g′ : List StepRecord} → Judged x r s w g n → Judged x q s′ w′ g′ n′
+    → (r ≡ q) × (s ≡ s′) × (w ≡ w′) × (g ≡ g′) × (n ≡ n′)
 judged-one {r = r} {q = q} a b = (
   answer-known r q (a .said ∙ sym (b .said)),
   a .store-words ∙ sym (b .store-words),
   a .scratch-words ∙ sym (b .scratch-words),
   a .log-records ∙ sym (b .log-records),
+  a .occurrence-words ∙ sym (b .occurrence-words),
 )
 
 -- one line of the desk

@@ -14,10 +14,11 @@ use Rattle.rules.specs.Limits.{terms-wrong, steps-wrong}
 use Rattle.rules.specs.Netlist.{counts-right, record-words, needed, variable, inverted, gate, output, rhs0, rhs1, cell-word, record-of, record-at, output-sound, gate-sound, cell-sound, record-sound, table-sound, counts-wrong, table-short, table-unsound}
 use Rattle.rules.specs.Values.{width, bit, turned, literal-value, input-values, record-value, gate-value, values-to, values, shown}
 use Rattle.rules.specs.Product.{kind-of, kind-unknown, complement, adds, shares, operand-width, addend-width, operand-a, operand-b, operand-c, first-word, second-word, outputs-of, operand, negative, size, modulo, product, wanted-word, below-zero, product-term, addend-term, specification}
+use Rattle.rules.specs.Occurrences.{counts-at, occurring, occurrences, with-occurrences}
 use Rattle.rules.specs.Polynomial.{keep, place, insert, gather, minus, with-variable, times-variable, times-chosen, times-literal}
 use Rattle.rules.specs.Cells.{lies-in, evenly, evens, odds, coefficient, above, below, scaled}
 use Rattle.rules.specs.Steps.{modulus, start-terms, start, where-held, times-subset, times-whole, times-record, replaced, all-replaced, step, trail, run}
-use Rattle.rules.specs.Judging.{Inputs, set-width, term-width, misfits, kind-wrong, is-gate, order-wrong, most-made, scratch-needed, lent-short, judge-checks, roomy, held, completed, inputs-only, sooner, soonest, shown-for, differs, ended, verdict, term-words, polynomial-words, padded, records, over, kept-or, checks, refusal, polynomials, judging, store-after, scratch-after, log-after}
+use Rattle.rules.specs.Judging.{Inputs, set-width, term-width, misfits, kind-wrong, is-gate, order-wrong, most-made, scratch-needed, lent-short, judge-checks, roomy, held, completed, inputs-only, sooner, soonest, shown-for, differs, ended, verdict, term-words, polynomial-words, padded, records, over, kept-or, checks, refusal, polynomials, judging, store-after, scratch-after, log-after, occurrences-after}
 use Rattle.rules.specs.Text.{digits, decimal}
 use Rattle.rules.specs.Reading.{Netlist, netlist, refused, digit, leading-digits, value-from, well-written, behind, with-numbers, and-then, field, fields, word, header-line, tested, input-line, output-line, gate-line, lines, end-read, gates-read, outputs-read, inputs-read, counts-read, counts-of, header-read, reading}
 use Rattle.rules.specs.declared.answers.StepRecord.{StepRecord}
@@ -59,6 +60,8 @@ pub record Row : Type 0 where
   pub says : Says
   -- the words of the store's terms
   pub store : List ℕ
+  -- the occurrences, up to the last that is not 0
+  pub numbers : List ℕ
   -- the gates and terms of the log's records, one for each step completed
   pub gates : List ℕ
   pub terms : List ℕ
@@ -79,6 +82,7 @@ handed row c words =
       store = replicate (suc (row .limit * (c .m / 64 + 2))) lent;
       scratch = replicate (suc (most-made (c .records) * row .limit * (c .m / 64 + 2))) lent;
       log = replicate (suc (length (row .order))) (record { gate = lent; terms = lent });
+      occurrences = replicate (suc (c .m + 1)) lent;
     }
 
 -- the words of a buffer of that length at exit: the row's, then zeros or what was lent
@@ -91,11 +95,13 @@ words-right row x (answers k numbers) =
     same (filled (row .store) 0 (x .store)) (store-after x)
     && same (filled [] 0 (x .scratch)) (scratch-after x)
     && same-records (filled (row .gates) lent (x .log)) (filled (row .terms) lent (x .log)) (log-after x)
+    && same (padded (x .counts .m + 1) (row .numbers) ++ lent ∷ []) (occurrences-after x)
     && eqb (row .begins) (length (start (kind-of (x .kind)) (x .counts) (x .table)))
 words-right row x (refuses k) =
     same (filled [] lent (x .store)) (store-after x)
     && same (filled [] lent (x .scratch)) (scratch-after x)
     && same-records (filled [] lent (x .log)) (filled [] lent (x .log)) (log-after x)
+    && same (filled [] lent (x .occurrences)) (occurrences-after x)
 
 -- the judgement of what is handed over is the row's
 unfoldable pub judged-right : Row → Inputs → Bool
@@ -116,7 +122,7 @@ unfolding same same-records same-says handed filled words-right judged-right rea
     modulus below-zero product-term addend-term specification start-terms start where-held replaced all-replaced step trail run
     set-width term-width misfits kind-wrong is-gate order-wrong lent-short judge-checks roomy held completed inputs-only sooner
     soonest operand-a operand-b operand-c first-word second-word shown-for differs ended verdict term-words polynomial-words padded records over kept-or checks refusal polynomials judging
-    store-after scratch-after log-after
+    store-after scratch-after log-after counts-at occurring occurrences with-occurrences occurrences-after
     record-words cell-word record-of record-at cell-sound record-sound record-value lies-in evenly evens odds coefficient above below scaled
     times-chosen times-subset times-whole times-record most-made scratch-needed
     digit leading-digits value-from well-written behind with-numbers and-then field fields word header-line tested input-line
@@ -124,8 +130,8 @@ unfolding same same-records same-says handed filled words-right judged-right rea
 right row = read-right row (reading 2106 (row .text))
 
 -- a row at T = 128
-unfoldable pub sheet : List ℕ → ℕ → List ℕ → ℕ → Says → List ℕ → List ℕ → Row
-sheet text kind order begins says store terms =
+unfoldable pub sheet : List ℕ → ℕ → List ℕ → ℕ → Says → List ℕ → List ℕ → List ℕ → Row
+sheet text kind order begins says store numbers terms =
     record {
       text = text;
       kind = kind;
@@ -134,6 +140,7 @@ sheet text kind order begins says store terms =
       begins = begins;
       says = says;
       store = store;
+      numbers = numbers;
       gates = take (length terms) order;
       terms = terms;
     }
@@ -158,20 +165,20 @@ ten-down = 14 ∷ 13 ∷ 12 ∷ 11 ∷ 10 ∷ 9 ∷ 8 ∷ 7 ∷ 6 ∷ 5 ∷ []
 unfoldable pub desk-example : List ℕ
 desk-example = bytes "aag 3 2 0 2 1\n2\n4\n7\n0\n6 5 3\n"
 
--- P1 to P11: text, kind, order, terms at the start, what is said, the store's words, the terms after each step
+-- P1 to P11: text, kind, order, terms at the start, what is said, the store's words, the occurrences, the terms after each step
 unfoldable pub bench-sheet : List Row
 bench-sheet =
-    sheet (and-block "6\n0\n") 0 (3 ∷ []) 2 (answers 0 (1 ∷ 0 ∷ [])) [] (0 ∷ [])
-    ∷ sheet (and-block "6\n0\n") 1 (3 ∷ []) 2 (answers 0 (1 ∷ 0 ∷ [])) [] (0 ∷ [])
-    ∷ sheet (and-block "6\n6\n") 0 (3 ∷ []) 2 (answers 1 (1 ∷ 1 ∷ 1 ∷ 1 ∷ 0 ∷ 3 ∷ 1 ∷ [])) (2 ∷ 6 ∷ []) (1 ∷ [])
-    ∷ sheet (and-block "6\n6\n") 1 (3 ∷ []) 2 (answers 1 (1 ∷ 1 ∷ 1 ∷ 1 ∷ 0 ∷ 3 ∷ 1 ∷ [])) (2 ∷ 6 ∷ []) (1 ∷ [])
-    ∷ sheet (and-block "7\n0\n") 0 (3 ∷ []) 3 (answers 1 (1 ∷ 2 ∷ 0 ∷ 0 ∷ 0 ∷ 1 ∷ 0 ∷ [])) (2 ∷ 6 ∷ 1 ∷ 0 ∷ []) (2 ∷ [])
-    ∷ sheet (and-block "6\n0\n") 0 [] 2 (answers 3 (0 ∷ 2 ∷ [])) (1 ∷ 8 ∷ 3 ∷ 6 ∷ []) []
-    ∷ sheet (and-block "6\n0\n") 0 (3 ∷ 3 ∷ []) 2 (answers 0 (2 ∷ 0 ∷ [])) [] (0 ∷ 0 ∷ [])
-    ∷ sheet (bytes "aag 3 2 0 1 1\n2\n4\n6\n6 4 2\n") 2 (3 ∷ []) 2 (answers 0 (1 ∷ 0 ∷ [])) [] (0 ∷ [])
-    ∷ sheet desk-example 0 (3 ∷ []) 3 (answers 1 (1 ∷ 3 ∷ 1 ∷ 0 ∷ 0 ∷ 1 ∷ 0 ∷ [])) (2 ∷ 6 ∷ 1 ∷ 4 ∷ 1 ∷ 2 ∷ []) (3 ∷ [])
-    ∷ sheet two-bits 0 ten-down 8 (answers 0 (10 ∷ 0 ∷ [])) [] (10 ∷ 13 ∷ 8 ∷ 10 ∷ 13 ∷ 8 ∷ 6 ∷ 4 ∷ 2 ∷ 0 ∷ [])
-    ∷ sheet two-bits 1 ten-down 8 (answers 1 (10 ∷ 2 ∷ 2 ∷ 1 ∷ 0 ∷ 2 ∷ 14 ∷ [])) (4 ∷ 18 ∷ 4 ∷ 12 ∷ []) (10 ∷ 13 ∷ 8 ∷ 10 ∷ 13 ∷ 8 ∷ 6 ∷ 5 ∷ 4 ∷ 2 ∷ [])
+    sheet (and-block "6\n0\n") 0 (3 ∷ []) 2 (answers 0 (1 ∷ 0 ∷ [])) [] [] (0 ∷ [])
+    ∷ sheet (and-block "6\n0\n") 1 (3 ∷ []) 2 (answers 0 (1 ∷ 0 ∷ [])) [] [] (0 ∷ [])
+    ∷ sheet (and-block "6\n6\n") 0 (3 ∷ []) 2 (answers 1 (1 ∷ 1 ∷ 1 ∷ 1 ∷ 0 ∷ 3 ∷ 1 ∷ [])) (2 ∷ 6 ∷ []) (1 ∷ 1 ∷ 1 ∷ []) (1 ∷ [])
+    ∷ sheet (and-block "6\n6\n") 1 (3 ∷ []) 2 (answers 1 (1 ∷ 1 ∷ 1 ∷ 1 ∷ 0 ∷ 3 ∷ 1 ∷ [])) (2 ∷ 6 ∷ []) (1 ∷ 1 ∷ 1 ∷ []) (1 ∷ [])
+    ∷ sheet (and-block "7\n0\n") 0 (3 ∷ []) 3 (answers 1 (1 ∷ 2 ∷ 0 ∷ 0 ∷ 0 ∷ 1 ∷ 0 ∷ [])) (2 ∷ 6 ∷ 1 ∷ 0 ∷ []) (2 ∷ 1 ∷ 1 ∷ []) (2 ∷ [])
+    ∷ sheet (and-block "6\n0\n") 0 [] 2 (answers 3 (0 ∷ 2 ∷ [])) (1 ∷ 8 ∷ 3 ∷ 6 ∷ []) (2 ∷ 1 ∷ 1 ∷ 1 ∷ []) []
+    ∷ sheet (and-block "6\n0\n") 0 (3 ∷ 3 ∷ []) 2 (answers 0 (2 ∷ 0 ∷ [])) [] [] (0 ∷ 0 ∷ [])
+    ∷ sheet (bytes "aag 3 2 0 1 1\n2\n4\n6\n6 4 2\n") 2 (3 ∷ []) 2 (answers 0 (1 ∷ 0 ∷ [])) [] [] (0 ∷ [])
+    ∷ sheet desk-example 0 (3 ∷ []) 3 (answers 1 (1 ∷ 3 ∷ 1 ∷ 0 ∷ 0 ∷ 1 ∷ 0 ∷ [])) (2 ∷ 6 ∷ 1 ∷ 4 ∷ 1 ∷ 2 ∷ []) (3 ∷ 2 ∷ 2 ∷ []) (3 ∷ [])
+    ∷ sheet two-bits 0 ten-down 8 (answers 0 (10 ∷ 0 ∷ [])) [] [] (10 ∷ 13 ∷ 8 ∷ 10 ∷ 13 ∷ 8 ∷ 6 ∷ 4 ∷ 2 ∷ 0 ∷ [])
+    ∷ sheet two-bits 1 ten-down 8 (answers 1 (10 ∷ 2 ∷ 2 ∷ 1 ∷ 0 ∷ 2 ∷ 14 ∷ [])) (4 ∷ 18 ∷ 4 ∷ 12 ∷ []) (2 ∷ 1 ∷ 1 ∷ 1 ∷ 1 ∷ []) (10 ∷ 13 ∷ 8 ∷ 10 ∷ 13 ∷ 8 ∷ 6 ∷ 5 ∷ 4 ∷ 2 ∷ [])
     ∷ []
 
 -- every row of the bench sheet is right

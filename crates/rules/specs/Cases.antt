@@ -27,13 +27,14 @@ edge kind limit order says =
       begins = 2;
       says = says;
       store = [];
+      numbers = [];
       gates = order;
       terms = replicate (length order) 0;
     }
 
 -- a text that is refused when it is read, or whose block is refused when it is judged as plain
 unfoldable pub unfit : List ℕ → ℕ → Row
-unfit text k = sheet text 0 [] 0 (refuses k) [] []
+unfit text k = sheet text 0 [] 0 (refuses k) [] [] []
 
 -- 12-bit operands: outputs 51, 53, .. 97 are the inverses of the gates 25 to 48, each AND of two inputs
 unfoldable pub twelve-bits : List ℕ
@@ -53,6 +54,7 @@ twelve limit says =
       begins = 169;
       says = says;
       store = [];
+      numbers = [];
       gates = [];
       terms = [];
     }
@@ -111,12 +113,14 @@ turns =
     sheet (bytes "aag 5 4 0 4 1\n2\n4\n6\n8\n6\n10\n0\n0\n10 4 2\n") 0 (5 ∷ []) 6
     (answers 1 (1 ∷ 6 ∷ 0 ∷ 1 ∷ 0 ∷ 1 ∷ 0 ∷ []))
     (12 ∷ 20 ∷ 14 ∷ 18 ∷ 14 ∷ 12 ∷ 15 ∷ 10 ∷ 1 ∷ 8 ∷ 2 ∷ 6 ∷ [])
+    (6 ∷ 3 ∷ 3 ∷ 3 ∷ 2 ∷ [])
     (6 ∷ [])
     ∷ sheet (bytes "aag 14 4 0 2 10\n2\n4\n6\n8\n10\n22\n" ++ two-bit-gates) 2 ten-down 5
     (answers 0 (10 ∷ 0 ∷ []))
     []
+    []
     (5 ∷ 5 ∷ 5 ∷ 8 ∷ 10 ∷ 6 ∷ 6 ∷ 4 ∷ 2 ∷ 0 ∷ [])
-    ∷ sheet two-bits 0 winding 8 (answers 0 (10 ∷ 0 ∷ [])) [] (11 ∷ 12 ∷ 15 ∷ 10 ∷ 13 ∷ 8 ∷ 6 ∷ 4 ∷ 2 ∷ 0 ∷ [])
+    ∷ sheet two-bits 0 winding 8 (answers 0 (10 ∷ 0 ∷ [])) [] [] (11 ∷ 12 ∷ 15 ∷ 10 ∷ 13 ∷ 8 ∷ 6 ∷ 4 ∷ 2 ∷ 0 ∷ [])
     ∷ []
 
 -- a·b + c of one-bit a and b, and the same without the upper bit of c: wrong at c = 2
@@ -137,17 +141,17 @@ six-inputs = bytes "aag 6 6 0 2 0\n2\n4\n6\n8\n10\n12\n2\n4\n"
 -- multiply and add under a kind: a right block, a wrong one with its operands, and six inputs, which are no multiple of four
 unfoldable pub added : ℕ → List Row
 added kind =
-    sheet one-bit-sum kind (11 ∷ 10 ∷ 9 ∷ 8 ∷ 7 ∷ 6 ∷ 5 ∷ []) 5 (answers 0 (7 ∷ 0 ∷ [])) [] (8 ∷ 8 ∷ 4 ∷ 6 ∷ 7 ∷ 2 ∷ 0 ∷ [])
-    ∷ sheet upper-bit-lost kind (8 ∷ 7 ∷ 6 ∷ 5 ∷ []) 5 (answers 1 (4 ∷ 1 ∷ 0 ∷ 0 ∷ 2 ∷ 0 ∷ 2 ∷ [])) (2 ∷ 16 ∷ []) (7 ∷ 8 ∷ 3 ∷ 1 ∷ [])
-    ∷ sheet six-inputs kind [] 0 (refuses 9) [] []
+    sheet one-bit-sum kind (11 ∷ 10 ∷ 9 ∷ 8 ∷ 7 ∷ 6 ∷ 5 ∷ []) 5 (answers 0 (7 ∷ 0 ∷ [])) [] [] (8 ∷ 8 ∷ 4 ∷ 6 ∷ 7 ∷ 2 ∷ 0 ∷ [])
+    ∷ sheet upper-bit-lost kind (8 ∷ 7 ∷ 6 ∷ 5 ∷ []) 5 (answers 1 (4 ∷ 1 ∷ 0 ∷ 0 ∷ 2 ∷ 0 ∷ 2 ∷ [])) (2 ∷ 16 ∷ []) (1 ∷ 0 ∷ 0 ∷ 0 ∷ 1 ∷ []) (7 ∷ 8 ∷ 3 ∷ 1 ∷ [])
+    ∷ sheet six-inputs kind [] 0 (refuses 9) [] [] []
     ∷ []
 
 -- both kinds; and what is left where c cancels, the product of two bits with every sign plus, or with two's complement's signs
 unfoldable pub sums : List Row
 sums =
     added 3 ++ added 4
-    ++ sheet product-lost 3 [] 4 (answers 1 (0 ∷ 4 ∷ 1 ∷ 1 ∷ 0 ∷ 0 ∷ 1 ∷ [])) (12 ∷ 20 ∷ 14 ∷ 18 ∷ 14 ∷ 12 ∷ 15 ∷ 10 ∷ []) []
-    ∷ sheet product-lost 4 [] 4 (answers 1 (0 ∷ 4 ∷ 1 ∷ 1 ∷ 0 ∷ 0 ∷ 1 ∷ [])) (12 ∷ 20 ∷ 2 ∷ 18 ∷ 2 ∷ 12 ∷ 15 ∷ 10 ∷ []) []
+    ++ sheet product-lost 3 [] 4 (answers 1 (0 ∷ 4 ∷ 1 ∷ 1 ∷ 0 ∷ 0 ∷ 1 ∷ [])) (12 ∷ 20 ∷ 14 ∷ 18 ∷ 14 ∷ 12 ∷ 15 ∷ 10 ∷ []) (4 ∷ 2 ∷ 2 ∷ 2 ∷ 2 ∷ []) []
+    ∷ sheet product-lost 4 [] 4 (answers 1 (0 ∷ 4 ∷ 1 ∷ 1 ∷ 0 ∷ 0 ∷ 1 ∷ [])) (12 ∷ 20 ∷ 2 ∷ 18 ∷ 2 ∷ 12 ∷ 15 ∷ 10 ∷ []) (4 ∷ 2 ∷ 2 ∷ 2 ∷ 2 ∷ []) []
     ∷ []
 
 -- the counts of a block of two inputs, two outputs and so many lookup cells
@@ -164,24 +168,26 @@ cells-as a table row = judged-right row (handed row (cell-counts a) table)
 unfoldable pub cell-cases : Bool
 unfolding right
 cell-cases =
-    cells-as 1 (6 ∷ 0 ∷ 136 ∷ 1 ∷ 2 ∷ 0 ∷ []) (sheet [] 0 (3 ∷ []) 2 (answers 0 (1 ∷ 0 ∷ [])) [] (0 ∷ []))
-    && cells-as 1 (6 ∷ 0 ∷ 8 ∷ 2 ∷ 1 ∷ 0 ∷ []) (sheet [] 0 (3 ∷ []) 2 (answers 0 (1 ∷ 0 ∷ [])) [] (0 ∷ []))
-    && cells-as 1 (6 ∷ 0 ∷ 34 ∷ 1 ∷ 2 ∷ 0 ∷ []) (sheet [] 0 (3 ∷ []) 2 (answers 1 (1 ∷ 2 ∷ 1 ∷ 0 ∷ 0 ∷ 1 ∷ 0 ∷ [])) (2 ∷ 6 ∷ 1 ∷ 2 ∷ []) (2 ∷ []))
-    && cells-as 2 (8 ∷ 0 ∷ 136 ∷ 1 ∷ 2 ∷ 0 ∷ 150 ∷ 1 ∷ 2 ∷ 3 ∷ []) (sheet [] 0 (4 ∷ 3 ∷ []) 2 (answers 1 (2 ∷ 3 ∷ 1 ∷ 0 ∷ 0 ∷ 1 ∷ 0 ∷ [])) (2 ∷ 6 ∷ 1 ∷ 4 ∷ 1 ∷ 2 ∷ []) (6 ∷ 3 ∷ []))
-    && cells-as 1 (6 ∷ 0 ∷ 150 ∷ 1 ∷ 2 ∷ 1 ∷ []) (sheet [] 0 (3 ∷ []) 2 (answers 1 (1 ∷ 2 ∷ 0 ∷ 1 ∷ 0 ∷ 1 ∷ 0 ∷ [])) (3 ∷ 6 ∷ 1 ∷ 4 ∷ []) (2 ∷ []))
-    && cells-as 1 (6 ∷ 0 ∷ 255 ∷ 2 ∷ 2 ∷ 2 ∷ []) (sheet [] 0 (3 ∷ []) 2 (answers 1 (1 ∷ 2 ∷ 0 ∷ 0 ∷ 0 ∷ 1 ∷ 0 ∷ [])) (3 ∷ 6 ∷ 1 ∷ 0 ∷ []) (2 ∷ []))
-    && cells-as 1 (6 ∷ 0 ∷ 256 ∷ 1 ∷ 2 ∷ 0 ∷ []) (sheet [] 0 (3 ∷ []) 2 (refuses 8) [] [])
-    && cells-as 1 (6 ∷ 0 ∷ 136 ∷ 1 ∷ 2 ∷ 3 ∷ []) (sheet [] 0 (3 ∷ []) 2 (refuses 8) [] [])
-    && cells-as 1 (6 ∷ 0 ∷ 136 ∷ 1 ∷ 2 ∷ []) (sheet [] 0 (3 ∷ []) 2 (refuses 3) [] [])
+    cells-as 1 (6 ∷ 0 ∷ 136 ∷ 1 ∷ 2 ∷ 0 ∷ []) (sheet [] 0 (3 ∷ []) 2 (answers 0 (1 ∷ 0 ∷ [])) [] [] (0 ∷ []))
+    && cells-as 1 (6 ∷ 0 ∷ 8 ∷ 2 ∷ 1 ∷ 0 ∷ []) (sheet [] 0 (3 ∷ []) 2 (answers 0 (1 ∷ 0 ∷ [])) [] [] (0 ∷ []))
+    && cells-as 1 (6 ∷ 0 ∷ 34 ∷ 1 ∷ 2 ∷ 0 ∷ []) (sheet [] 0 (3 ∷ []) 2 (answers 1 (1 ∷ 2 ∷ 1 ∷ 0 ∷ 0 ∷ 1 ∷ 0 ∷ [])) (2 ∷ 6 ∷ 1 ∷ 2 ∷ []) (2 ∷ 2 ∷ 1 ∷ []) (2 ∷ []))
+    && cells-as 2 (8 ∷ 0 ∷ 136 ∷ 1 ∷ 2 ∷ 0 ∷ 150 ∷ 1 ∷ 2 ∷ 3 ∷ []) (sheet [] 0 (4 ∷ 3 ∷ []) 2 (answers 1 (2 ∷ 3 ∷ 1 ∷ 0 ∷ 0 ∷ 1 ∷ 0 ∷ [])) (2 ∷ 6 ∷ 1 ∷ 4 ∷ 1 ∷ 2 ∷ []) (3 ∷ 2 ∷ 2 ∷ []) (6 ∷ 3 ∷ []))
+    && cells-as 1 (6 ∷ 0 ∷ 150 ∷ 1 ∷ 2 ∷ 1 ∷ []) (sheet [] 0 (3 ∷ []) 2 (answers 1 (1 ∷ 2 ∷ 0 ∷ 1 ∷ 0 ∷ 1 ∷ 0 ∷ [])) (3 ∷ 6 ∷ 1 ∷ 4 ∷ []) (2 ∷ 1 ∷ 2 ∷ []) (2 ∷ []))
+    && cells-as 1 (6 ∷ 0 ∷ 255 ∷ 2 ∷ 2 ∷ 2 ∷ []) (sheet [] 0 (3 ∷ []) 2 (answers 1 (1 ∷ 2 ∷ 0 ∷ 0 ∷ 0 ∷ 1 ∷ 0 ∷ [])) (3 ∷ 6 ∷ 1 ∷ 0 ∷ []) (2 ∷ 1 ∷ 1 ∷ []) (2 ∷ []))
+    && cells-as 1 (6 ∷ 0 ∷ 256 ∷ 1 ∷ 2 ∷ 0 ∷ []) (sheet [] 0 (3 ∷ []) 2 (refuses 8) [] [] [])
+    && cells-as 1 (6 ∷ 0 ∷ 136 ∷ 1 ∷ 2 ∷ 3 ∷ []) (sheet [] 0 (3 ∷ []) 2 (refuses 8) [] [] [])
+    && cells-as 1 (6 ∷ 0 ∷ 136 ∷ 1 ∷ 2 ∷ []) (sheet [] 0 (3 ∷ []) 2 (refuses 3) [] [] [])
 
--- scratch at T = 128 for sets of one word: 8T(W + 1) words for lookup cells, and 4T(W + 1) for AND gates, and not one less
-unfoldable pub scratch-edges : Bool
+-- scratch at T = 128 for sets of one word: 8T(W + 1) words for lookup cells, and 4T(W + 1) for AND gates, and not one less; and
+-- M + 1 words for the occurrences
+unfoldable pub lent-edges : Bool
 unfolding right
-scratch-edges =
-    not (lent-short (cell-counts 1) 128 0 256 2048 0)
-    && lent-short (cell-counts 1) 128 0 256 2047 0
-    && not (lent-short (record { m = 3; i = 2; l = 0; o = 2; a = 1; records = Gates }) 128 0 256 1024 0)
-    && lent-short (record { m = 3; i = 2; l = 0; o = 2; a = 1; records = Gates }) 128 0 256 1023 0
+lent-edges =
+    not (lent-short (cell-counts 1) 128 0 256 2048 0 4)
+    && lent-short (cell-counts 1) 128 0 256 2047 0 4
+    && not (lent-short (record { m = 3; i = 2; l = 0; o = 2; a = 1; records = Gates }) 128 0 256 1024 0 4)
+    && lent-short (record { m = 3; i = 2; l = 0; o = 2; a = 1; records = Gates }) 128 0 256 1023 0 4
+    && lent-short (record { m = 3; i = 2; l = 0; o = 2; a = 1; records = Gates }) 128 0 256 1024 0 3
 
 -- what is said of a plain block below the check of T
 unfoldable pub said-at : ℕ → List ℕ → Netlist → Says
@@ -238,9 +244,9 @@ desk-sums :
 unfolding bytes upper-bit-lost one-bit-sum desk-prints
 desk-sums = ((refl, refl), (refl, refl))
 
--- each case of lookup cells is right, and the least scratch of both kinds of record
-cells-right : (cell-cases && scratch-edges) ≡ true
-unfolding cell-counts cells-as cell-cases scratch-edges sheet right
+-- each case of lookup cells is right, and the least lengths of what is lent
+cells-right : (cell-cases && lent-edges) ≡ true
+unfolding cell-counts cells-as cell-cases lent-edges sheet right
 cells-right = refl
 
 -- each look is right

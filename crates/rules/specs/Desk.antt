@@ -2,7 +2,7 @@
 use mathlib.Core.Path.{_≡_}
 use mathlib.Core.Bool.{Bool, true, false, cond, _&&_}
 use mathlib.Core.List.{List, [], _∷_, _++_}
-use Prim.Native.Nat.{ℕ, zero, suc, _-_, _*_}
+use Prim.Native.Nat.{ℕ, _+_, zero, suc, _-_, _*_}
 use lib.Dec.{ltb, eqb}
 use lib.ListN.{length, take, drop, replicate}
 use Rattle.rules.specs.Each.{listed}
@@ -39,6 +39,7 @@ desk-checks kind c words =
     (desk-terms * term-width c)
     (4 * desk-terms * term-width c)
     (length (falling c))
+    (c .m + 1)
 
 -- judging with them
 unfoldable pub desk-judging : ℕ → Counts → List ℕ → Says

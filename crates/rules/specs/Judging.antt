@@ -11,6 +11,7 @@ use Rattle.rules.specs.Limits.{terms-wrong, steps-wrong}
 use Rattle.rules.specs.Netlist.{counts-wrong, table-short, table-unsound}
 use Rattle.rules.specs.Values.{shown}
 use Rattle.rules.specs.Product.{Kind, kind-of, kind-unknown, shares, operand-width, operand-a, operand-b, operand-c, first-word, second-word, outputs-of, wanted-word}
+use Rattle.rules.specs.Occurrences.{with-occurrences}
 use Rattle.rules.specs.Polynomial.{Term, Polynomial}
 use Rattle.rules.specs.Steps.{run}
 use Rattle.rules.specs.Says.{Says, answers, first, refuse-or, says}
@@ -53,21 +54,21 @@ most-made Cells = 8
 unfoldable pub scratch-needed : Counts → ℕ → ℕ
 scratch-needed c limit = most-made (c .records) * limit * term-width c
 
--- store, scratch or log too short (12), from their lengths
-unfoldable pub lent-short : Counts → ℕ → ℕ → ℕ → ℕ → ℕ → Bool
-lent-short c limit steps store scratch log =
-    ltb store (limit * term-width c) || ltb scratch (scratch-needed c limit) || ltb log steps
+-- store, scratch, log or occurrences too short (12), from their lengths
+unfoldable pub lent-short : Counts → ℕ → ℕ → ℕ → ℕ → ℕ → ℕ → Bool
+lent-short c limit steps store scratch log occurrences =
+    ltb store (limit * term-width c) || ltb scratch (scratch-needed c limit) || ltb log steps || ltb occurrences (c .m + 1)
 
 -- the checks of judging in their order; of the lent buffers they ask only how long they are
-unfoldable pub judge-checks : Counts → List ℕ → ℕ → ℕ → List ℕ → ℕ → ℕ → ℕ → List (ℕ × Bool)
-judge-checks c table kind limit order store scratch log =
+unfoldable pub judge-checks : Counts → List ℕ → ℕ → ℕ → List ℕ → ℕ → ℕ → ℕ → ℕ → List (ℕ × Bool)
+judge-checks c table kind limit order store scratch log occurrences =
     (2, counts-wrong c)
     ∷ (3, table-short c (length table))
     ∷ (8, table-unsound c table)
     ∷ (9, kind-wrong c kind)
     ∷ (10, terms-wrong limit)
     ∷ (11, order-wrong c order)
-    ∷ (12, lent-short c limit (length order) store scratch log)
+    ∷ (12, lent-short c limit (length order) store scratch log occurrences)
     ∷ []
 
 -- how many polynomials of the run, from its first, have at most T terms before one has more
@@ -166,6 +167,7 @@ pub record Inputs : Type 0 where
   pub store : List ℕ
   pub scratch : List ℕ
   pub log : List StepRecord
+  pub occurrences : List ℕ
 
 -- the checks of what is handed in
 unfoldable pub checks : Inputs → List (ℕ × Bool)
@@ -179,6 +181,7 @@ checks x =
     (length (x .store))
     (length (x .scratch))
     (length (x .log))
+    (length (x .occurrences))
 
 -- the refusal of what is handed in, or 0
 unfoldable pub refusal : Inputs → ℕ
@@ -210,9 +213,16 @@ log-after x =
     let new = over (completed (x .limit) (polynomials x)) (records (x .order) (polynomials x)) (x .log) in
     kept-or (refusal x) (x .log) new
 
+-- the occurrences at exit: those of the polynomial held, and its other words as they were
+unfoldable pub occurrences-after : Inputs → List ℕ
+occurrences-after x =
+    let new = with-occurrences (x .counts) (held (x .limit) (polynomials x)) (x .occurrences) in
+    kept-or (refusal x) (x .occurrences) new
+
 -- the permitted outcome of the judge: its answer and every lent buffer at exit
-pub record Judged (x : Inputs) (r : Answer) (store scratch : List ℕ) (log : List StepRecord) : Type 0 where
+pub record Judged (x : Inputs) (r : Answer) (store scratch : List ℕ) (log : List StepRecord) (occurrences : List ℕ) : Type 0 where
   pub said : says r ≡ judging x
   pub store-words : store ≡ store-after x
   pub scratch-words : scratch ≡ scratch-after x
   pub log-records : log ≡ log-after x
+  pub occurrence-words : occurrences ≡ occurrences-after x

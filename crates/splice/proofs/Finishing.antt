@@ -14,7 +14,7 @@ use Rattle.weave.specs.declared.weaving.Sizes.{Sizes}
 use Rattle.splice.specs.Splicing.{Splicing, Spliced, spliced}
 use Rattle.splice.proofs.Written.{same-terms}
 
-module _ (z : Sizes) (store scratch : List ℕ) (r : ℕ) (store1 : List ℕ) (h : Splicing z store scratch (z .end) 0 0) (zeros : drop (z .n * (z .w + 1)) store ≡ replicate (length store - z .n * (z .w + 1)) 0)
+module _ (z : Sizes) (store scratch : List ℕ) {lent : ℕ} (r : ℕ) (store1 : List ℕ) (h : Splicing z store scratch lent (z .end) 0 0) (zeros : drop (z .n * (z .w + 1)) store ≡ replicate (length store - z .n * (z .w + 1)) 0)
     (sp : Spliced z store scratch (z .end) 0 0 r store1) (l1 : length store1 ≡ length store) where
   -- the terms are in front
   in-front : decoded (z .w) r store1 ≡ spliced z store scratch (z .end) 0

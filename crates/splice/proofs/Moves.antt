@@ -13,7 +13,7 @@ use Rattle.rules.specs.Polynomial.{Polynomial, keep}
 use Rattle.words.specs.Numbers.{num}
 use Rattle.words.specs.Stored.{decoded}
 use Rattle.words.specs.Stretches.{moved}
-use Rattle.splice.specs.Splicing.{size}
+use Rattle.rules.specs.Occurrences.{present}
 use Rattle.splice.proofs.Written.{Only, only-none, only-written, same-terms, moved-terms, put-term}
 
 -- u terms at word H moved to word T, if that is wanted
@@ -30,20 +30,20 @@ module _ (w u H T : ℕ) (d d′ : List ℕ) (h : H + u * (w + 1) ≤ length d) 
 -- a term of c and the set x written at word t, if it is one
 module _ (w t c : ℕ) (x d d′ : List ℕ) (lx : length x ≡ w) (k : t + (w + 1) ≤ length d) (q : d′ ≡ cond (eqb c 0) d (take t d ++ ((c ∷ x) ++ drop (t + (w + 1)) d))) where
   -- no other word is changed
-  pub put-only : Only t (t + size c * (w + 1)) d d′
-  unfolding size
+  pub put-only : Only t (t + present c * (w + 1)) d d′
+  unfolding present
   put-only = go c q
     where
-      go : (c : ℕ) → d′ ≡ cond (eqb c 0) d (take t d ++ ((c ∷ x) ++ drop (t + (w + 1)) d)) → Only t (t + size c * (w + 1)) d d′
+      go : (c : ℕ) → d′ ≡ cond (eqb c 0) d (take t d ++ ((c ∷ x) ++ drop (t + (w + 1)) d)) → Only t (t + present c * (w + 1)) d d′
       go zero f = rw f (only-none t (t + 0 * (w + 1)) d)
       go (suc c) f = rw (one-mul (w + 1)) (only-written t (w + 1) (t + (w + 1)) (suc c ∷ x) d d′ (omega (arith, lx)) k (omega arith) (rw (ne-eqb (suc c) 0 (λ z. omega arith)) at f))
 
   -- and it is there
-  pub put-there : (p : Polynomial) → decoded w (size c) (drop t d′) ++ p ≡ keep c (num x) p
-  unfolding size keep decoded
+  pub put-there : (p : Polynomial) → decoded w (present c) (drop t d′) ++ p ≡ keep c (num x) p
+  unfolding present keep decoded
   put-there p = go c q
     where
-      go : (c : ℕ) → d′ ≡ cond (eqb c 0) d (take t d ++ ((c ∷ x) ++ drop (t + (w + 1)) d)) → decoded w (size c) (drop t d′) ++ p ≡ keep c (num x) p
+      go : (c : ℕ) → d′ ≡ cond (eqb c 0) d (take t d ++ ((c ∷ x) ++ drop (t + (w + 1)) d)) → decoded w (present c) (drop t d′) ++ p ≡ keep c (num x) p
       go zero f = refl
       go (suc c) f = ap (λ (o : Polynomial). o ++ p) (put-term w t (suc c) x (drop (t + (w + 1)) d) d d′ lx (omega arith) (rw (ne-eqb (suc c) 0 (λ z. omega arith)) at f))
 

@@ -1,18 +1,20 @@
 -- A new term parts the terms that it goes among: those above it, itself, and the rest.
-use mathlib.Core.Path.{_≡_, refl, ap, _∙_}
+use mathlib.Core.Path.{_≡_, refl, ap, sym, _∙_}
 use mathlib.Core.Bool.{Bool, true, false}
 use mathlib.Core.List.{[], _∷_, _++_, append-assoc}
 use mathlib.Core.Logic.{⊎-elim}
-use Prim.Native.Nat.{ℕ, zero, suc, _+_, _%_, _<_, _≤_}
-use native.Mathlib.Nat.{eq-zero-or-pos, eq-or-lt-of-le, mod-lt}
+use Prim.Native.Nat.{ℕ, zero, suc, _+_, _*_, _%_, _<_, _≤_}
+use native.Mathlib.Nat.{zero-add, zero-mul, one-mul, eq-zero-or-pos, eq-or-lt-of-le, mod-lt}
 use native.Mathlib.Omega.{arith}
 use lib.Dec.{ltb, eqb}
 use lib.ListN.{length, getD, take, drop, take-append-drop, drop-of-length-le}
 use lib.Seq.{drop-cons, getD-take, length-take-le}
 use borrow.Author.Tests.{ltb-true, ltb-false, eqb-true, eqb-false}
 use Rattle.rules.specs.Each.{sum, joined}
+use Rattle.rules.specs.Occurrences.{counts-at, occurring}
 use Rattle.rules.specs.Polynomial.{Term, Polynomial, hit, coefficient-at, Below, Coefficients, Under, keep, gather}
 use Rattle.rules.proofs.Gathered.{under-of}
+use Rattle.rules.proofs.Occurring.{occurring-append}
 use Rattle.weave.specs.Merging.{floor, Merging, two}
 use Rattle.weave.specs.Seeking.{Cut}
 use Rattle.weave.proofs.Falling.{floor-above, coefficients-take}
@@ -83,20 +85,27 @@ module _ (m hi : ℕ) (p q : Polynomial) (y : Term) (hm : 0 < m) (fp : Below hi 
       let cons : drop at p ≡ getD p at (0, 0) ∷ drop (suc at) p = drop-cons p at (0, 0) l in
       parted ((y .0 + getD p at (0, 0) .0) % m) (drop (suc at) p) (mod-lt _ hm) (rw s at ((rw cons at left-low) .1)) (λ u. rw cons (heads-sums m (drop (suc at) p) q (getD p at (0, 0)) y s u))
 
+-- the first terms, and the others
+occurring-parts : (u i : ℕ) (p : Polynomial) → occurring p u ≡ occurring (take i p) u + occurring (drop i p) u
+occurring-parts u i p = ap (λ (x : Polynomial). occurring x u) (sym (take-append-drop i p)) ∙ occurring-append u (take i p) (drop i p)
+
 -- by where the term goes: both parts, the term between them, and its coefficient
 pub record Parted (m : ℕ) (p q : Polynomial) (s : ℕ) (r : Spot) (whole : Polynomial) : Type 0 where
   pub within : r .above + r .met ≤ length p
+  pub once : r .met ≤ 1
   pub small : r .c < m
+  pub others : (u : ℕ) → occurring p u ≡ occurring (take (r .above) p) u + (r .met * counts-at s u + occurring (drop (r .above + r .met) p) u)
   pub parts : whole ≡ take (r .above) p ++ keep (r .c) s (gather m (drop (r .above + r .met) p ++ q))
 
 pub spot-parts : (m hi : ℕ) (p q : Polynomial) (y : Term) (r : Spot) → 0 < m → Below hi p → Coefficients m p → Below hi (y ∷ q) → y .0 < m → Spotted m p (y .0) (y .1) r → Parted m p q (y .1) r (gather m (p ++ y ∷ q))
+unfolding occurring
 spot-parts m hi p q y r hm fp cp fq cy h = go (ltb (r .above) (length p)) refl (eqb (getD p (r .above) (0, 0) .1) (y .1)) refl
   where
     alone : (r .above < length p → getD p (r .above) (0, 0) .1 ≡ y .1 → ⊥) → Parted m p q (y .1) r (gather m (p ++ y ∷ q))
     alone n =
         let e = h .alone n in
         let z : r .above + r .met ≡ r .above = omega (arith, e .0) in
-        record { within = omega (arith, h .cut .high); small = rw (e .1) cy; parts = rw (e .1, z) (part-alone m hi p q y hm fp cp fq cy (r .above) (h .cut) n) }
+        record { within = omega (arith, h .cut .high); once = omega (arith, e .0); small = rw (e .1) cy; others = λ u. rw (z, e .0, zero-mul, zero-add) (occurring-parts u (r .above) p); parts = rw (e .1, z) (part-alone m hi p q y hm fp cp fq cy (r .above) (h .cut) n) }
 
     go : (a : Bool) → ltb (r .above) (length p) ≡ a → (b : Bool) → eqb (getD p (r .above) (0, 0) .1) (y .1) ≡ b → Parted m p q (y .1) r (gather m (p ++ y ∷ q))
     go false a b d = alone (λ l. absurd (omega (arith, ltb-false (r .above) (length p) a)))
@@ -106,4 +115,6 @@ spot-parts m hi p q y r hm fp cp fq cy h = go (ltb (r .above) (length p)) refl (
         let f : getD p (r .above) (0, 0) .1 ≡ y .1 = eqb-true _ _ d in
         let e = h .both l f in
         let z : r .above + r .met ≡ suc (r .above) = omega (arith, e .0) in
-        record { within = omega arith; small = rw (e .1) (mod-lt _ hm); parts = rw (e .1, z) (part-both m hi p q y hm fp cp fq cy (r .above) (h .cut) l f) }
+        let cons : drop (r .above) p ≡ getD p (r .above) (0, 0) ∷ drop (suc (r .above)) p = drop-cons p (r .above) (0, 0) l in
+        let here : (u : ℕ) → occurring (drop (r .above) p) u ≡ counts-at (y .1) u + occurring (drop (suc (r .above)) p) u = λ u. rw (cons, ← f) refl in
+        record { within = omega arith; once = omega (arith, e .0); small = rw (e .1) (mod-lt _ hm); others = λ u. rw (z, e .0, one-mul, ← here u) (occurring-parts u (r .above) p); parts = rw (e .1, z) (part-both m hi p q y hm fp cp fq cy (r .above) (h .cut) l f) }

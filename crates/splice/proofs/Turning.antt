@@ -2,7 +2,7 @@
 use mathlib.Core.Path.{_≡_, refl, ap, sym, _∙_}
 use mathlib.Core.Bool.{cond}
 use mathlib.Core.List.{List, [], _∷_, _++_, append-assoc}
-use Prim.Native.Nat.{ℕ, zero, suc, _+_, _-_, _*_, _^_, _<_, _≤_}
+use Prim.Native.Nat.{ℕ, suc, _+_, _-_, _*_, _^_, _<_, _≤_}
 use native.Mathlib.Nat.{add-mul, mul-le-mul-left, mul-le-mul-right}
 use native.Mathlib.Numerals.{add-one}
 use native.Mathlib.Omega.{arith}
@@ -10,12 +10,17 @@ use lib.Dec.{ltb, eqb}
 use lib.ListN.{length, getD, take, drop, length-drop, drop-of-length-le}
 use lib.Pow.{pow-pos}
 use lib.Seq.{drop-cons, drop-drop, length-take-le, take-all}
-use Rattle.rules.specs.Polynomial.{Polynomial, Below, Coefficients, gather}
+use Rattle.rules.specs.Occurrences.{counts-at, present, occurring}
+use Rattle.rules.specs.Polynomial.{Polynomial, Below, Coefficients, keep, gather}
 use Rattle.rules.proofs.Gathered.{under-of}
+use Rattle.rules.proofs.Occurring.{present-most, occurring-append, occurring-keep}
 use Rattle.rules.proofs.Terms.{weaken}
+use Rattle.rules.specs.Values.{bit}
+use Rattle.tally.specs.Marks.{Numbered, Moved, times-counts}
+use Rattle.tally.proofs.Moving.{moved-add, moved-same}
 use Rattle.words.specs.Numbers.{num, words-at}
 use Rattle.words.specs.Stored.{decoded}
-use Rattle.words.proofs.Numbers.{length-words-at}
+use Rattle.words.proofs.Numbers.{num-short, length-words-at}
 use Rattle.words.proofs.Stored.{length-decoded, decoded-drop, decoded-take, stride-in, stride-le}
 use Rattle.weave.specs.Weaving.{new-terms}
 use Rattle.weave.specs.declared.weaving.Sizes.{Sizes}
@@ -24,23 +29,17 @@ use Rattle.weave.proofs.Fronts.{under-append}
 use Rattle.weave.proofs.Turns.{new-at}
 use Rattle.weave.proofs.Woven.{weave-none, weave-rest}
 use Rattle.words.specs.Stretches.{moved}
-use Rattle.splice.specs.Splicing.{size, Spotting, Spotted, Splicing, Spliced, terms-left, spliced}
+use Rattle.splice.specs.Splicing.{Spotting, Spotted, Splicing, Spliced, terms-left, spliced}
 use Rattle.splice.specs.declared.spots.Spot.{Spot}
 use Rattle.splice.proofs.Written.{Only, only-written, moved-terms, decoded-parts}
 use Rattle.splice.proofs.Moves.{rest-stays, stretch-there, rest-there, front-stays, behind-stays, put-only, put-there}
 use Rattle.splice.proofs.Parting.{Parted, spot-parts}
 
--- a coefficient makes at most one term
-pub size-most : (c : ℕ) → size c ≤ 1
-unfolding size
-size-most zero = omega arith
-size-most (suc c) = omega arith
-
 -- a falling list is gathered
 gathered : (m hi : ℕ) (p : Polynomial) → 0 < m → Below hi p → Coefficients m p → gather m (p ++ []) ≡ p
 gathered m hi p hm f c = sym (weave-rest m hi (p ++ []) [] p hm (under-append hi p [] (under-of hi hi p (omega arith) f) tt) (weave-none m hi p [] f tt) c)
 
-module _ (z : Sizes) (store scratch : List ℕ) (first used to : ℕ) (h : Splicing z store scratch first used to) where
+module _ (z : Sizes) (store scratch : List ℕ) {lent : ℕ} (first used to : ℕ) (h : Splicing z store scratch lent first used to) where
   -- how many terms are left
   left-length : length (terms-left z store first) ≡ z .n - first
   left-length = length-decoded (z .w) (z .n - first) (drop (first * (z .w + 1)) store)
@@ -78,11 +77,20 @@ module _ (z : Sizes) (store scratch : List ℕ) (first used to : ℕ) (h : Splic
   pub all-left : take (length store - first * (z .w + 1)) (drop (first * (z .w + 1)) store) ≡ drop (first * (z .w + 1)) store
   all-left = take-all (length store - first * (z .w + 1)) (drop (first * (z .w + 1)) store) (simp length-drop (omega arith))
 
-  -- no new term is left: what is left of the others is moved, and that is all
+  -- no new term is left: what is left of the others is all
+  last-terms : used ≡ z .made → spliced z store scratch first used ≡ terms-left z store first
+  last-terms e =
+      let none : drop used (new-terms z scratch) ≡ [] = drop-of-length-le (new-terms z scratch) {i = used} (omega (arith, new-length)) in
+      rw none (gathered (2 ^ z .l) (2 ^ (64 * z .k)) (terms-left z store first) (pow-pos (z .l)) (h .falls) (h .coefficients))
+
+  -- so no number changes
+  pub last-numbers : (n : List ℕ) → used ≡ z .made → Moved (occurring (terms-left z store first)) (occurring (spliced z store scratch first used)) n n
+  last-numbers n e = moved-same (λ u. rw (last-terms e))
+
+  -- it is moved, and that is all
   pub last-turn : (store′ : List ℕ) → used ≡ z .made → store′ ≡ moved (first * (z .w + 1)) (to * (z .w + 1)) ((z .n - first) * (z .w + 1)) store → Spliced z store scratch first used to (z .n - first) store′
   last-turn store′ e m =
-      let none : drop used (new-terms z scratch) ≡ [] = drop-of-length-le (new-terms z scratch) {i = used} (omega (arith, new-length)) in
-      let all : spliced z store scratch first used ≡ terms-left z store first = rw none (gathered (2 ^ z .l) (2 ^ (64 * z .k)) (terms-left z store first) (pow-pos (z .l)) (h .falls) (h .coefficients)) in
+      let all = last-terms e in
       let only : Only (to * (z .w + 1)) (to * (z .w + 1) + (z .n - first) * (z .w + 1)) store store′ =
       only-written (to * (z .w + 1)) ((z .n - first) * (z .w + 1)) (to * (z .w + 1) + (z .n - first) * (z .w + 1)) (take ((z .n - first) * (z .w + 1)) (drop (first * (z .w + 1)) store)) store store′
       (length-take-le ((z .n - first) * (z .w + 1)) (drop (first * (z .w + 1)) store) (simp length-drop (omega (arith, left-words, h .room)))) (room-at (z .n - first) (omega arith)) (omega arith) m in
@@ -118,6 +126,10 @@ module _ (z : Sizes) (store scratch : List ℕ) (first used to : ℕ) (h : Splic
     new-some : Coefficients (2 ^ z .l) (getD (new-terms z scratch) used (0, 0) ∷ drop (suc used) (new-terms z scratch))
     new-some = rw new-left at (h .new-coefficients)
 
+    -- their variables have numbers
+    new-numbers : Numbered lent (getD (new-terms z scratch) used (0, 0) ∷ drop (suc used) (new-terms z scratch))
+    new-numbers = rw new-left at (h .new-numbered)
+
     -- what is asked to find its place
     pub asks-place : Spotting (take (length store - first * (z .w + 1)) (drop (first * (z .w + 1)) store)) (z .n - first) z scratch ((z .limit + used) * (z .w + 1))
     asks-place = rw all-left (record {
@@ -132,6 +144,17 @@ module _ (z : Sizes) (store scratch : List ℕ) (first used to : ℕ) (h : Splic
       low = rw (new-at z scratch used l) at (new-low .0);
       small = rw (new-at z scratch used l) at (new-some .1);
     })
+
+    -- the words of its set that are used
+    new-short : num (words-at scratch ((z .limit + used) * (z .w + 1) + 1) (z .w)) ≡ num (words-at scratch ((z .limit + used) * (z .w + 1) + 1) (z .k))
+    new-short = num-short scratch ((z .limit + used) * (z .w + 1) + 1) (z .w) (z .k) (omega (arith, new-room)) (h .short) (rw (new-at z scratch used l) at (new-low .0))
+
+    -- what is asked to count it
+    pub asks-count : ((z .limit + used) * (z .w + 1) + (z .k + 1) ≤ length scratch) × (z .k ≤ 16) × (0 < lent)
+        × (num (words-at scratch ((z .limit + used) * (z .w + 1) + 1) (z .k)) < 2 ^ lent) × (bit (num (words-at scratch ((z .limit + used) * (z .w + 1) + 1) (z .k))) 0 ≡ 0)
+    asks-count =
+        let numbers = rw (new-at z scratch used l, new-short) at (new-numbers .0) in
+        (omega (arith, new-room, h .short), omega (arith, h .short, h .narrow), h .some-number, numbers .0, numbers .1)
 
     module _ (r : Spot) (found : Spotted (2 ^ z .l) (decoded (z .w) (z .n - first) (take (length store - first * (z .w + 1)) (drop (first * (z .w + 1)) store))) (getD scratch ((z .limit + used) * (z .w + 1)) 0) (num (words-at scratch ((z .limit + used) * (z .w + 1) + 1) (z .w))) r) where
       -- the new term parts the others
@@ -152,18 +175,18 @@ module _ (z : Sizes) (store scratch : List ℕ) (first used to : ℕ) (h : Splic
       next-words = add-mul (first + r .above) (r .met) (z .w + 1) ∙ ap (λ (k : ℕ). k + r .met * (z .w + 1)) (add-mul first (r .above) (z .w + 1))
 
       -- and up to where it goes
-      to-words : (to + r .above + size (r .c)) * (z .w + 1) ≡ to * (z .w + 1) + r .above * (z .w + 1) + size (r .c) * (z .w + 1)
-      to-words = add-mul (to + r .above) (size (r .c)) (z .w + 1) ∙ ap (λ (k : ℕ). k + size (r .c) * (z .w + 1)) (add-mul to (r .above) (z .w + 1))
+      to-words : (to + r .above + present (r .c)) * (z .w + 1) ≡ to * (z .w + 1) + r .above * (z .w + 1) + present (r .c) * (z .w + 1)
+      to-words = add-mul (to + r .above) (present (r .c)) (z .w + 1) ∙ ap (λ (k : ℕ). k + present (r .c) * (z .w + 1)) (add-mul to (r .above) (z .w + 1))
 
       -- all of them lie inside
       next-room : first * (z .w + 1) + r .above * (z .w + 1) + r .met * (z .w + 1) ≤ z .n * (z .w + 1)
       next-room = rw (← next-words) (mul-le-mul-right (z .w + 1) (omega (arith, above-in, h .first-in)))
 
       -- so does what is made
-      made-room : (rest : ℕ) → rest ≤ z .n - (first + r .above + r .met) + (z .made - (used + 1)) → to * (z .w + 1) + r .above * (z .w + 1) + size (r .c) * (z .w + 1) + rest * (z .w + 1) ≤ length store
+      made-room : (rest : ℕ) → rest ≤ z .n - (first + r .above + r .met) + (z .made - (used + 1)) → to * (z .w + 1) + r .above * (z .w + 1) + present (r .c) * (z .w + 1) + rest * (z .w + 1) ≤ length store
       made-room rest k =
-          let q : (to + r .above + size (r .c) + rest) * (z .w + 1) ≡ to * (z .w + 1) + r .above * (z .w + 1) + size (r .c) * (z .w + 1) + rest * (z .w + 1) = add-mul (to + r .above + size (r .c)) rest (z .w + 1) ∙ ap (λ (n : ℕ). n + rest * (z .w + 1)) to-words in
-          rw (← q) (stride-le (to + r .above + size (r .c) + rest) (z .limit) (z .w) (length store) (omega (arith, h .fits, above-in, size-most (r .c))) (h .store-room))
+          let q : (to + r .above + present (r .c) + rest) * (z .w + 1) ≡ to * (z .w + 1) + r .above * (z .w + 1) + present (r .c) * (z .w + 1) + rest * (z .w + 1) = add-mul (to + r .above + present (r .c)) rest (z .w + 1) ∙ ap (λ (n : ℕ). n + rest * (z .w + 1)) to-words in
+          rw (← q) (stride-le (to + r .above + present (r .c) + rest) (z .limit) (z .w) (length store) (omega (arith, h .fits, above-in, present-most (r .c))) (h .store-room))
 
       module _ (s1 : List ℕ) (l1 : length s1 ≡ length store) (e1 : s1 ≡ cond (ltb (to * (z .w + 1)) (first * (z .w + 1))) (moved (first * (z .w + 1)) (to * (z .w + 1)) (r .above * (z .w + 1)) store) store) where
         -- the rest of the others stands where it stood
@@ -171,11 +194,11 @@ module _ (z : Sizes) (store scratch : List ℕ) (first used to : ℕ) (h : Splic
         next-left =
             let q : z .n - (first + r .above + r .met) ≡ z .n - first - (r .above + r .met) = omega arith in
             let m : first * (z .w + 1) + (r .above + r .met) * (z .w + 1) ≡ first * (z .w + 1) + r .above * (z .w + 1) + r .met * (z .w + 1) = omega (arith, add-mul (r .above) (r .met) (z .w + 1)) in
-            let stays = rest-stays (z .w) (r .above) (first * (z .w + 1)) (to * (z .w + 1)) (r .met * (z .w + 1)) (size (r .c) * (z .w + 1)) (z .n * (z .w + 1)) 0 store s1 store store store (h .room) next-room (omega (arith, made-room 0 (omega arith))) l1 refl refl e1 in
+            let stays = rest-stays (z .w) (r .above) (first * (z .w + 1)) (to * (z .w + 1)) (r .met * (z .w + 1)) (present (r .c) * (z .w + 1)) (z .n * (z .w + 1)) 0 store s1 store store store (h .room) next-room (omega (arith, made-room 0 (omega arith))) l1 refl refl e1 in
             rw (next-words, stays, q) (sym (decoded-drop (z .w) (r .above + r .met) (z .n - first) (drop (first * (z .w + 1)) store) above-in ∙ rw (drop-drop ((r .above + r .met) * (z .w + 1)) (first * (z .w + 1)) store, m)))
 
         -- what is asked to put the rest together
-        pub asks-rest : Splicing z s1 scratch (first + r .above + r .met) (used + 1) (to + r .above + size (r .c))
+        pub asks-rest : Splicing z s1 scratch lent (first + r .above + r .met) (used + 1) (to + r .above + present (r .c))
         asks-rest = record {
           room = rw l1 (h .room);
           store-room = rw l1 (h .store-room);
@@ -186,14 +209,31 @@ module _ (z : Sizes) (store scratch : List ℕ) (first used to : ℕ) (h : Splic
           l-high = h .l-high;
           first-in = omega (arith, above-in, h .first-in);
           used-in = omega arith;
-          fits = omega (arith, h .fits, above-in, size-most (r .c));
+          fits = omega (arith, h .fits, above-in, present-most (r .c));
           falls = rw next-left (below-drop (2 ^ (64 * z .k)) (r .above + r .met) (terms-left z store first) (h .falls));
           coefficients = rw next-left (coefficients-drop (2 ^ z .l) (r .above + r .met) (terms-left z store first) (h .coefficients));
           new-falls = rw (add-one used) (weaken (getD (new-terms z scratch) used (0, 0) .1) (2 ^ (64 * z .k)) (drop (suc used) (new-terms z scratch)) (omega (arith, new-low .0)) (new-low .1));
           new-coefficients = rw (add-one used) (new-some .2);
+          some-number = h .some-number;
+          new-numbered = rw (add-one used) (new-numbers .1);
         }
 
-        module _ (rest : ℕ) (s2 s3 s4 : List ℕ) (sp : Spliced z s1 scratch (first + r .above + r .met) (used + 1) (to + r .above + size (r .c)) rest s2)
+        -- the numbers of the rest go on, and then those of the new term
+        pub turn-numbers : (n₀ n₁ n₂ : List ℕ) → Moved (occurring (terms-left z s1 (first + r .above + r .met))) (occurring (spliced z s1 scratch (first + r .above + r .met) (used + 1))) n₀ n₁
+            → Moved (times-counts (r .met) (num (words-at scratch ((z .limit + used) * (z .w + 1) + 1) (z .k)))) (times-counts (present (r .c)) (num (words-at scratch ((z .limit + used) * (z .w + 1) + 1) (z .k)))) n₁ n₂
+            → Moved (occurring (terms-left z store first)) (occurring (spliced z store scratch first used)) n₀ n₂
+        unfolding times-counts
+        turn-numbers n₀ n₁ n₂ later one =
+            let G : Polynomial = gather (2 ^ z .l) (drop (r .above + r .met) (terms-left z store first) ++ drop (suc used) (new-terms z scratch)) in
+            let s = num (words-at scratch ((z .limit + used) * (z .w + 1) + 1) (z .k)) in
+            let front = take (r .above) (terms-left z store first) in
+            let rests : Moved (occurring (drop (r .above + r .met) (terms-left z store first))) (occurring G) n₀ n₁ = rw (next-left, add-one used) at later in
+            let all : (u : ℕ) → occurring (spliced z store scratch first used) u ≡ occurring front u + (present (r .c) * counts-at s u + occurring G u) =
+            λ u. rw (parted .parts, occurring-append u front (keep (r .c) _ G), occurring-keep u (r .c) _ G, new-short) in
+            moved-add (λ u. rw (parted .others u, new-short) (omega arith)) (λ u. rw (all u) (omega arith))
+            (moved-add (λ u. refl) (λ u. refl) (moved-same {gone = occurring front} {come = occurring front} (λ u. refl)) rests) one
+
+        module _ (rest : ℕ) (s2 s3 s4 : List ℕ) (sp : Spliced z s1 scratch (first + r .above + r .met) (used + 1) (to + r .above + present (r .c)) rest s2)
             (l2 : length s2 ≡ length store) (l3 : length s3 ≡ length store) (l4 : length s4 ≡ length store)
             (e3 : s3 ≡ cond (ltb (first * (z .w + 1)) (to * (z .w + 1))) (moved (first * (z .w + 1)) (to * (z .w + 1)) (r .above * (z .w + 1)) s2) s2)
             (e4 : s4 ≡ cond (eqb (r .c) 0) s3 (take ((to + r .above) * (z .w + 1)) s3 ++ ((r .c ∷ words-at scratch ((z .limit + used) * (z .w + 1) + 1) (z .w)) ++ drop ((to + r .above) * (z .w + 1) + (z .w + 1)) s3))) where
@@ -206,40 +246,40 @@ module _ (z : Sizes) (store scratch : List ℕ) (first used to : ℕ) (h : Splic
           put-room = rw l3 term-room
 
           -- only its words are written last
-          put-last : Only (to * (z .w + 1) + r .above * (z .w + 1)) (to * (z .w + 1) + r .above * (z .w + 1) + size (r .c) * (z .w + 1)) s3 s4
+          put-last : Only (to * (z .w + 1) + r .above * (z .w + 1)) (to * (z .w + 1) + r .above * (z .w + 1) + present (r .c) * (z .w + 1)) s3 s4
           put-last = rw (← add-mul to (r .above) (z .w + 1)) (put-only (z .w) ((to + r .above) * (z .w + 1)) (r .c) (words-at scratch ((z .limit + used) * (z .w + 1) + 1) (z .w)) s3 s4 set-length put-room e4)
 
           -- the words of the rest, as the turn has them
-          front : (b : ℕ) → b ≤ first * (z .w + 1) + r .above * (z .w + 1) + r .met * (z .w + 1) → b ≤ to * (z .w + 1) + r .above * (z .w + 1) + size (r .c) * (z .w + 1) → take b s2 ≡ take b s1
+          front : (b : ℕ) → b ≤ first * (z .w + 1) + r .above * (z .w + 1) + r .met * (z .w + 1) → b ≤ to * (z .w + 1) + r .above * (z .w + 1) + present (r .c) * (z .w + 1) → take b s2 ≡ take b s1
           front b x y = sp .front b (rw next-words x) (rw to-words y)
 
-          behind : (b : ℕ) → z .n * (z .w + 1) ≤ b → to * (z .w + 1) + r .above * (z .w + 1) + size (r .c) * (z .w + 1) + rest * (z .w + 1) ≤ b → drop b s2 ≡ drop b s1
-          behind b x y = sp .behind b x (rw (add-mul (to + r .above + size (r .c)) rest (z .w + 1), to-words) y)
+          behind : (b : ℕ) → z .n * (z .w + 1) ≤ b → to * (z .w + 1) + r .above * (z .w + 1) + present (r .c) * (z .w + 1) + rest * (z .w + 1) ≤ b → drop b s2 ≡ drop b s1
+          behind b x y = sp .behind b x (rw (add-mul (to + r .above + present (r .c)) rest (z .w + 1), to-words) y)
 
           -- all terms from the `to`-th place on: the stretch, the new term, the rest
-          all-there : decoded (z .w) (r .above + size (r .c) + rest) (drop (to * (z .w + 1)) s4) ≡ spliced z store scratch first used
+          all-there : decoded (z .w) (r .above + present (r .c) + rest) (drop (to * (z .w + 1)) s4) ≡ spliced z store scratch first used
           all-there =
-              let one = stretch-there (z .w) (r .above) (first * (z .w + 1)) (to * (z .w + 1)) (r .met * (z .w + 1)) (size (r .c) * (z .w + 1)) (z .n * (z .w + 1)) (rest * (z .w + 1)) store s1 s2 s3 s4 (h .room) next-room (made-room rest (sp .most)) l1 l2 l3 e1 front behind e3 put-last l4 in
+              let one = stretch-there (z .w) (r .above) (first * (z .w + 1)) (to * (z .w + 1)) (r .met * (z .w + 1)) (present (r .c) * (z .w + 1)) (z .n * (z .w + 1)) (rest * (z .w + 1)) store s1 s2 s3 s4 (h .room) next-room (made-room rest (sp .most)) l1 l2 l3 e1 front behind e3 put-last l4 in
               let two = put-there (z .w) ((to + r .above) * (z .w + 1)) (r .c) (words-at scratch ((z .limit + used) * (z .w + 1) + 1) (z .w)) s3 s4 set-length put-room e4 in
-              let three = rest-there (z .w) (r .above) (first * (z .w + 1)) (to * (z .w + 1)) (r .met * (z .w + 1)) (size (r .c) * (z .w + 1)) (z .n * (z .w + 1)) (rest * (z .w + 1)) store s1 s2 s3 s4 (h .room) next-room (made-room rest (sp .most)) l1 l2 l3 e1 front behind e3 put-last l4 in
+              let three = rest-there (z .w) (r .above) (first * (z .w + 1)) (to * (z .w + 1)) (r .met * (z .w + 1)) (present (r .c) * (z .w + 1)) (z .n * (z .w + 1)) (rest * (z .w + 1)) store s1 s2 s3 s4 (h .room) next-room (made-room rest (sp .most)) l1 l2 l3 e1 front behind e3 put-last l4 in
               let G : Polynomial = gather (2 ^ z .l) (drop (r .above + r .met) (terms-left z store first) ++ drop (suc used) (new-terms z scratch)) in
               let stretch : decoded (z .w) (r .above) (drop (to * (z .w + 1)) s4) ≡ take (r .above) (terms-left z store first) = one ∙ decoded-take (z .w) (r .above) (z .n - first) (drop (first * (z .w + 1)) store) (omega (arith, above-in)) in
-              let rests : decoded (z .w) rest (drop ((to + r .above + size (r .c)) * (z .w + 1)) s4) ≡ gather (2 ^ z .l) (drop (r .above + r .met) (terms-left z store first) ++ drop (suc used) (new-terms z scratch)) =
+              let rests : decoded (z .w) rest (drop ((to + r .above + present (r .c)) * (z .w + 1)) s4) ≡ gather (2 ^ z .l) (drop (r .above + r .met) (terms-left z store first) ++ drop (suc used) (new-terms z scratch)) =
               ap (decoded (z .w) rest) (rw to-words three) ∙ sp .there ∙ rw (next-left, add-one used) in
-              decoded-parts (z .w) (r .above + size (r .c)) rest (to * (z .w + 1)) ((to + r .above + size (r .c)) * (z .w + 1)) s4 (to-words ∙ omega (arith, add-mul (r .above) (size (r .c)) (z .w + 1)))
-              ∙ rw (decoded-parts (z .w) (r .above) (size (r .c)) (to * (z .w + 1)) ((to + r .above) * (z .w + 1)) s4 (add-mul to (r .above) (z .w + 1)), stretch, rests, append-assoc, two G) (sym (parted .parts))
+              decoded-parts (z .w) (r .above + present (r .c)) rest (to * (z .w + 1)) ((to + r .above + present (r .c)) * (z .w + 1)) s4 (to-words ∙ omega (arith, add-mul (r .above) (present (r .c)) (z .w + 1)))
+              ∙ rw (decoded-parts (z .w) (r .above) (present (r .c)) (to * (z .w + 1)) ((to + r .above) * (z .w + 1)) s4 (add-mul to (r .above) (z .w + 1)), stretch, rests, append-assoc, two G) (sym (parted .parts))
 
           -- the turn is done
-          pub turn-done : Spliced z store scratch first used to (r .above + size (r .c) + rest) s4
+          pub turn-done : Spliced z store scratch first used to (r .above + present (r .c) + rest) s4
           turn-done = record {
-            most = omega (arith, sp .most, above-in, size-most (r .c));
-            counted = sym (length-decoded (z .w) (r .above + size (r .c) + rest) (drop (to * (z .w + 1)) s4)) ∙ ap length all-there;
+            most = omega (arith, sp .most, above-in, present-most (r .c));
+            counted = sym (length-decoded (z .w) (r .above + present (r .c) + rest) (drop (to * (z .w + 1)) s4)) ∙ ap length all-there;
             there = all-there;
-            front = front-stays (z .w) (r .above) (first * (z .w + 1)) (to * (z .w + 1)) (r .met * (z .w + 1)) (size (r .c) * (z .w + 1)) (z .n * (z .w + 1)) (rest * (z .w + 1)) store s1 s2 s3 s4 (h .room) next-room (made-room rest (sp .most)) l1 l2 l3 e1 front behind e3 put-last l4;
-            behind = λ b x y. behind-stays (z .w) (r .above) (first * (z .w + 1)) (to * (z .w + 1)) (r .met * (z .w + 1)) (size (r .c) * (z .w + 1)) (z .n * (z .w + 1)) (rest * (z .w + 1)) store s1 s2 s3 s4 (h .room) next-room (made-room rest (sp .most)) l1 l2 l3 e1 front behind e3 put-last l4 b x (omega (arith, all-words));
+            front = front-stays (z .w) (r .above) (first * (z .w + 1)) (to * (z .w + 1)) (r .met * (z .w + 1)) (present (r .c) * (z .w + 1)) (z .n * (z .w + 1)) (rest * (z .w + 1)) store s1 s2 s3 s4 (h .room) next-room (made-room rest (sp .most)) l1 l2 l3 e1 front behind e3 put-last l4;
+            behind = λ b x y. behind-stays (z .w) (r .above) (first * (z .w + 1)) (to * (z .w + 1)) (r .met * (z .w + 1)) (present (r .c) * (z .w + 1)) (z .n * (z .w + 1)) (rest * (z .w + 1)) store s1 s2 s3 s4 (h .room) next-room (made-room rest (sp .most)) l1 l2 l3 e1 front behind e3 put-last l4 b x (omega (arith, all-words));
           }
             where
-              all-words : (to + (r .above + size (r .c) + rest)) * (z .w + 1) ≡ to * (z .w + 1) + r .above * (z .w + 1) + size (r .c) * (z .w + 1) + rest * (z .w + 1)
+              all-words : (to + (r .above + present (r .c) + rest)) * (z .w + 1) ≡ to * (z .w + 1) + r .above * (z .w + 1) + present (r .c) * (z .w + 1) + rest * (z .w + 1)
               all-words =
-                  let q : to + (r .above + size (r .c) + rest) ≡ to + r .above + size (r .c) + rest = omega arith in
-                  rw q (add-mul (to + r .above + size (r .c)) rest (z .w + 1) ∙ ap (λ (n : ℕ). n + rest * (z .w + 1)) to-words)
+                  let q : to + (r .above + present (r .c) + rest) ≡ to + r .above + present (r .c) + rest = omega arith in
+                  rw q (add-mul (to + r .above + present (r .c)) rest (z .w + 1) ∙ ap (λ (n : ℕ). n + rest * (z .w + 1)) to-words)

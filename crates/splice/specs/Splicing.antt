@@ -1,20 +1,16 @@
 -- New terms put into a store in place: where each goes, and what is then in the store.
 use mathlib.Core.Path.{_≡_}
 use mathlib.Core.List.{List, _++_}
-use Prim.Native.Nat.{ℕ, zero, suc, _+_, _-_, _*_, _%_, _^_, _<_, _≤_}
+use Prim.Native.Nat.{ℕ, _+_, _-_, _*_, _%_, _^_, _<_, _≤_}
 use lib.ListN.{length, getD, take, drop}
 use Rattle.rules.specs.Polynomial.{Polynomial, Below, Coefficients, gather}
 use Rattle.words.specs.Numbers.{num, words-at}
 use Rattle.words.specs.Stored.{decoded}
+use Rattle.tally.specs.Marks.{Numbered}
 use Rattle.weave.specs.Seeking.{Cut}
 use Rattle.weave.specs.Weaving.{new-terms}
 use Rattle.weave.specs.declared.weaving.Sizes.{Sizes}
 use Rattle.splice.specs.declared.spots.Spot.{Spot}
-
--- how many terms a coefficient makes
-unfoldable pub size : ℕ → ℕ
-size zero = 0
-size (suc c) = 1
 
 -- what is asked to find where a new term goes: the terms' sets fall and use k words, as its own does
 pub record Spotting (terms : List ℕ) (n : ℕ) (z : Sizes) (scratch : List ℕ) (from : ℕ) : Type 0 where
@@ -43,8 +39,8 @@ terms-left z store first = decoded (z .w) (z .n - first) (drop (first * (z .w + 
 abbrev pub spliced : Sizes → List ℕ → List ℕ → ℕ → ℕ → Polynomial
 spliced z store scratch first used = gather (2 ^ z .l) (terms-left z store first ++ drop used (new-terms z scratch))
 
--- what is asked to put them together from the `to`-th place on: both lists fall, and there is room
-pub record Splicing (z : Sizes) (store scratch : List ℕ) (first used to : ℕ) : Type 0 where
+-- what is asked to put them together from the `to`-th place on: both lists fall, there is room, and the variables have numbers
+pub record Splicing (z : Sizes) (store scratch : List ℕ) (lent first used to : ℕ) : Type 0 where
   pub room : z .n * (z .w + 1) ≤ length store
   pub store-room : z .limit * (z .w + 1) ≤ length store
   pub scratch-room : (z .limit + z .made) * (z .w + 1) ≤ length scratch
@@ -59,6 +55,8 @@ pub record Splicing (z : Sizes) (store scratch : List ℕ) (first used to : ℕ)
   pub coefficients : Coefficients (2 ^ z .l) (terms-left z store first)
   pub new-falls : Below (2 ^ (64 * z .k)) (drop used (new-terms z scratch))
   pub new-coefficients : Coefficients (2 ^ z .l) (drop used (new-terms z scratch))
+  pub some-number : 0 < lent
+  pub new-numbered : Numbered lent (drop used (new-terms z scratch))
 
 -- they are there; words in front of both places are as they were, and those behind what the store held and what it holds
 pub record Spliced (z : Sizes) (store scratch : List ℕ) (first used to r : ℕ) (store′ : List ℕ) : Type 0 where

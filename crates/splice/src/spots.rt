@@ -6,9 +6,10 @@ use words::coefficients::sum;
 ghost use mathlib.Core.Path.{_≡_};
 ghost use Prim.Native.Nat.{_+_, _*_, _^_, _<_};
 ghost use lib.ListN.{getD};
+ghost use Rattle.rules.specs.Occurrences.{present};
 ghost use Rattle.words.specs.Numbers.{num, words-at};
 ghost use Rattle.words.specs.Stored.{decoded};
-ghost use Rattle.splice.specs.Splicing.{size, Spotting, Spotted};
+ghost use Rattle.splice.specs.Splicing.{Spotting, Spotted};
 
 // Behind how many terms a new one goes; whether the one behind those has its set (1) or not (0); and the coefficient of both.
 pub struct Spot {
@@ -19,7 +20,7 @@ pub struct Spot {
 
 // How many terms a coefficient makes: none if it is 0.
 pub fn size(c: u64) -> usize
-    ensures { λ r. ⌜ r ≡ size c ⌝ }
+    ensures { λ r. ⌜ r ≡ present c ⌝ }
 {
     if c == 0 {
         return 0;

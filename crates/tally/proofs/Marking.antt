@@ -1,27 +1,29 @@
 -- How numbers are marked: the lowest bit of a word, one word more of a set, and one set behind the other.
 use mathlib.Core.Path.{_≡_, refl, ap, sym, _∙_}
-use mathlib.Core.Bool.{Bool, true, false, cond}
-use mathlib.Core.List.{List, [], _∷_, _++_, append-nil}
-use Prim.Native.Nat.{ℕ, zero, suc, _+_, _-_, _*_, _/_, _%_, _^_, _<_, _≤_}
-use native.Mathlib.Nat.{add-assoc, add-zero, zero-add, mul-add, mul-assoc, mul-one, mul-zero, one-mul, zero-mul, mod-mod, mod-add-mod, mod-eq-of-lt, mod-lt, mul-sub, mul-le-mul-left, two-pow-succ}
+use mathlib.Core.Bool.{Bool, true, false}
+use mathlib.Core.List.{List, [], _∷_, _++_}
+use Prim.Native.Nat.{ℕ, zero, suc, _+_, _-_, _*_, _/_, _%_, _^_, _<_, _≤_, min}
+use native.Mathlib.Nat.{add-assoc, add-zero, zero-add, add-mul, mul-add, mul-assoc, mul-one, mul-zero, mod-mod, mod-add-mod, mod-eq-of-lt, mod-lt, mul-sub, mul-le-mul-left, two-pow-succ}
 use native.Mathlib.Omega.{arith}
+use lib.Bits.{bitAnd, and-step, and-self}
 use lib.Count.{under, trailingZeros}
 use lib.Dec.{ltb, eqb}
-use lib.ListN.{length, getD, set, take, drop, length-set}
+use lib.ListN.{length, getD, set, take, drop, length-set, length-drop, take-append-drop}
 use lib.Pow.{pow-add, pow-mono, pow-pos}
-use lib.Seq.{getD-append-add, getD-set-same, getD-set-other, getD-drop, drop-drop}
+use lib.Seq.{take-all, getD-set-same, getD-set-other, getD-drop, drop-drop}
 use borrow.Author.Tests.{eqb-true, eqb-false, ltb-true, ltb-false}
 use Rattle.rules.specs.Occurrences.{counts-at, occurring}
 use Rattle.rules.specs.Polynomial.{Polynomial}
 use Rattle.rules.specs.Values.{bit}
-use Rattle.rules.proofs.Bits.{digit-cases, bit-digit, bit-first, bit-next, bit-none, bit-out, bit-put, bit-both, bit-high}
+use Rattle.rules.proofs.Bits.{bit-first, bit-next, bit-none, bit-out, bit-put, bit-both, bit-high}
 use Rattle.rules.proofs.Occurring.{occurring-append}
 use Rattle.words.specs.Numbers.{num, words-at}
 use Rattle.words.specs.Stored.{decoded}
-use Rattle.words.proofs.Stored.{length-decoded, decoded-split}
-use Rattle.weave.specs.Seeking.{Free}
-use Rattle.weave.specs.Weaving.{holding}
-use Rattle.tally.specs.Marks.{Numbered, Marked, held-counts}
+use Rattle.words.proofs.Numbers.{num-short}
+use Rattle.words.proofs.Stored.{length-decoded, decoded-at, decoded-split, decoded-take, decoded-drop, stride-in, stride-le}
+use Rattle.weave.proofs.Falling.{below-front, below-drop}
+use Rattle.weave.proofs.Places.{set-below}
+use Rattle.tally.specs.Marks.{Numbered, Counting, Marked}
 
 -- the lowest bit that is 1, of a number of k bits that is not 0
 pub lowest : (k n : ℕ) → 0 < n → n < 2 ^ k → (bit n (trailingZeros k n) ≡ 1) × (trailingZeros k n < k)
@@ -35,6 +37,22 @@ lowest (suc k) n h l = go (n % 2) refl (λ e. lowest k (n / 2) (omega arith) (om
         let half = later e in
         (bit-next n (trailingZeros k (n / 2)) ∙ half .0, omega (arith, half .1))
     go (suc d) e later = (bit-first n ∙ omega arith, omega arith)
+
+-- a number less 1 has all bits but its lowest that is 1, and bits below that one
+pub lowest-out : (k n : ℕ) → 0 < n → n < 2 ^ k → bitAnd n (n - 1) ≡ n - 2 ^ trailingZeros k n
+unfolding trailingZeros
+lowest-out zero n h l = absurd (omega arith)
+lowest-out (suc k) n h l = and-step n (n - 1) ∙ go (n % 2) refl (λ e. lowest-out k (n / 2) (omega arith) (omega (arith, two-pow-succ k)))
+  where
+    go : (d : ℕ) → n % 2 ≡ d → (n % 2 ≡ 0 → bitAnd (n / 2) (n / 2 - 1) ≡ n / 2 - 2 ^ trailingZeros k (n / 2))
+        → bitAnd (n / 2) ((n - 1) / 2) * 2 + min (n % 2) ((n - 1) % 2) ≡ n - 2 ^ under d (trailingZeros k (n / 2))
+    go zero e later =
+        let half : (n - 1) / 2 ≡ n / 2 - 1 = omega arith in
+        rw (half, later e, e) (omega (arith, two-pow-succ (trailingZeros k (n / 2))))
+    go (suc d) e later =
+        let half : (n - 1) / 2 ≡ n / 2 = omega arith in
+        let low : (n - 1) % 2 ≡ 0 = omega arith in
+        rw (half, low, and-self) (omega arith)
 
 -- a power of 2 that is below another has the smaller exponent
 pub exponent-lt : (a b : ℕ) → 2 ^ a < 2 ^ b → a < b
@@ -172,65 +190,86 @@ occurring-next w i store u =
     let place : i * suc w ≡ i * (w + 1) = ap (λ (k : ℕ). i * k) (omega arith) in
     rw (decoded-split w i 1 store, occurring-append u (decoded w i store) (decoded w 1 (drop (i * suc w) store)), place, drop-drop 1 (i * (w + 1)) store, add-zero)
 
--- of lists one behind the other
-holding-append : (v : ℕ) (p q : Polynomial) → holding v (p ++ q) ≡ holding v p ++ holding v q
-unfolding holding
-holding-append v [] q = refl
-holding-append v (t ∷ p) q = go (eqb (bit (t .1) v) 1) (holding-append v p q)
-  where
-    go : (b : Bool) → holding v (p ++ q) ≡ holding v p ++ holding v q
-        → cond b (t ∷ holding v (p ++ q)) (holding v (p ++ q)) ≡ cond b (t ∷ holding v p) (holding v p) ++ holding v q
-    go true e = ap (λ (list : Polynomial). t ∷ list) e
-    go false e = e
+-- the i-th of the terms that are counted: its k words are there, and its variables have numbers
+pub record Counted (store : List ℕ) (w k lent i : ℕ) : Type 0 where
+  pub there : i * (w + 1) + (k + 1) ≤ length store
+  pub narrow : k ≤ 16
+  pub same : num (words-at store (i * (w + 1) + 1) w) ≡ num (words-at store (i * (w + 1) + 1) k)
+  pub low : num (words-at store (i * (w + 1) + 1) k) < 2 ^ lent
+  pub even : bit (num (words-at store (i * (w + 1) + 1) k)) 0 ≡ 0
 
--- terms none of which holds v
-holding-none : (v : ℕ) (p : Polynomial) → ((i : ℕ) → i < length p → bit (getD p i (0, 0) .1) v ≡ 0) → holding v p ≡ []
-unfolding holding
-holding-none v [] free = refl
-holding-none v (t ∷ p) free = rw (free 0 (omega arith)) (holding-none v p (λ i l. free (suc i) (omega arith)))
+module _ {store : List ℕ} {n w k lent : ℕ} (c : Counting store n w k lent) (i : ℕ) (l : i < n) where
+  pub counted-set : Counted store w k lent i
+  counted-set =
+      let here = length-decoded w n store in
+      let p = decoded w n store in
+      let at = decoded-at w n i store l in
+      let inside = stride-in i n w (length store) l (c .room) in
+      let numbers = rw at at (numbered-at lent i p (c .numbered) (omega (arith, here))) in
+      let short : num (words-at store (i * (w + 1) + 1) w) ≡ num (words-at store (i * (w + 1) + 1) k) =
+      num-short store (i * (w + 1) + 1) w k (omega arith) (c .short) (rw at at (set-below (2 ^ (64 * k)) p i (c .falls) (omega (arith, here)))) in
+      record {
+        there = omega (arith, c .short);
+        narrow = omega (arith, c .short, c .narrow);
+        same = short;
+        low = rw short at (numbers .0);
+        even = rw short at (numbers .1);
+      }
 
--- a set that holds v counts, another does not
-pub counts-held : (v s u : ℕ) → bit s v ≡ 1 → held-counts v s u ≡ counts-at s u
-unfolding held-counts
-counts-held v s u e = rw (e, one-mul)
+  -- one term more
+  pub counted-next : (u : ℕ) → occurring (decoded w (i + 1) store) u ≡ occurring (decoded w i store) u + counts-at (num (words-at store (i * (w + 1) + 1) k)) u
+  counted-next u = rw (← counted-set .same) (occurring-next w i store u)
 
-pub counts-other : (v s u : ℕ) → bit s v ≡ 0 → held-counts v s u ≡ 0
-unfolding held-counts
-counts-other v s u e = rw (e, zero-mul)
+-- the terms from one on, and those in front of it
+numbered-drop : (lent i : ℕ) (p : Polynomial) → Numbered lent p → Numbered lent (drop i p)
+numbered-drop lent zero p h = h
+numbered-drop lent (suc i) [] h = tt
+numbered-drop lent (suc i) (t ∷ p) h = numbered-drop lent i p (h .1)
 
--- a count that is another's everywhere
-pub marked-same : (by : ℕ) (f g : ℕ → ℕ) (n₀ n : List ℕ) → ((u : ℕ) → g u ≡ f u) → Marked by f n₀ n → Marked by g n₀ n
-marked-same by f g n₀ n same m = record { long = m .long; each = λ u l. m .each u l ∙ rw (same u) }
+numbered-take : (lent i : ℕ) (p : Polynomial) → Numbered lent p → Numbered lent (take i p)
+numbered-take lent zero p h = tt
+numbered-take lent (suc i) [] h = tt
+numbered-take lent (suc i) (t ∷ p) h = (h .0, numbered-take lent i p (h .1))
 
--- the terms that hold v, with the next one if it does
-pub holding-next : (w v i : ℕ) (store : List ℕ) (u : ℕ)
-    → occurring (holding v (decoded w (i + 1) store)) u ≡ occurring (holding v (decoded w i store)) u + held-counts v (num (words-at store (i * (w + 1) + 1) w)) u
-unfolding occurring decoded holding held-counts
-holding-next w v i store u =
-    let place : i * suc w ≡ i * (w + 1) = ap (λ (k : ℕ). i * k) (omega arith) in
-    rw (
-      decoded-split w i 1 store,
-      holding-append v (decoded w i store) (decoded w 1 (drop (i * suc w) store)),
-      occurring-append u (holding v (decoded w i store)) (holding v (decoded w 1 (drop (i * suc w) store))),
-      place,
-      drop-drop 1 (i * (w + 1)) store,
-    )
-    (ap (λ (x : ℕ). occurring (holding v (decoded w i store)) u + x)
-    (digit-cases (λ d. occurring (cond (eqb d 1) ((getD (drop (i * (w + 1)) store) 0 0, num (words-at store (i * (w + 1) + 1) w)) ∷ []) []) u ≡ d * counts-at (num (words-at store (i * (w + 1) + 1) w)) u)
-    (sym (zero-mul _)) (rw (one-mul, add-zero)) (bit (num (words-at store (i * (w + 1) + 1) w)) v) (bit-digit _ v)))
+-- all that is behind the first words
+pub rest-all : (words : List ℕ) (i : ℕ) → take (length words - i) (drop i words) ≡ drop i words
+rest-all words i = take-all (length words - i) (drop i words) (simp length-drop (omega arith))
 
--- from `end` on none does
-pub holding-end : (w v end n : ℕ) (store : List ℕ) → end ≤ n → Free v (decoded w n store) end n → holding v (decoded w end store) ≡ holding v (decoded w n store)
-holding-end w v end n store h free =
-    let all : end + (n - end) ≡ n = omega arith in
-    let rest = decoded w (n - end) (drop (end * suc w) store) in
-    let split : decoded w n store ≡ decoded w end store ++ rest = rw all at (decoded-split w end (n - end) store) in
-    let none : holding v rest ≡ [] = holding-none v rest (λ i l. rest-free i (rw length-decoded at l)) in
-    sym (rw (split, holding-append v (decoded w end store) rest, none) (append-nil (holding v (decoded w end store))))
-  where
-    rest-free : (i : ℕ) → i < n - end → bit (getD (decoded w (n - end) (drop (end * suc w) store)) i (0, 0) .1) v ≡ 0
-    rest-free i l =
-        let all : end + (n - end) ≡ n = omega arith in
-        let front : length (decoded w end store) ≡ end = length-decoded w end store in
-        let there = getD-append-add (decoded w end store) (decoded w (n - end) (drop (end * suc w) store)) i (0, 0) in
-        rw (← there, front, ← decoded-split w end (n - end) store, all) (free (end + i) (omega arith) (omega arith))
+module _ {store : List ℕ} {n w k lent : ℕ} (c : Counting store n w k lent) (from : ℕ) (l : from ≤ n) where
+  -- they begin within the words that are there
+  pub rest-room : from * (w + 1) ≤ length store
+  rest-room = stride-le from n w (length store) l (c .room)
+
+  -- those in front of them are counted there
+  pub counting-front : Counting store from w k lent
+  counting-front =
+      let front = decoded-take w from n store l in
+      record {
+        room = rest-room;
+        narrow = c .narrow;
+        short = c .short;
+        some = c .some;
+        falls = rw front (below-front (2 ^ (64 * k)) (take from (decoded w n store)) (drop from (decoded w n store)) (rw (take-append-drop from (decoded w n store)) (c .falls)));
+        numbered = rw front (numbered-take lent from (decoded w n store) (c .numbered));
+      }
+
+  -- and so are they
+  pub counting-rest : Counting (drop (from * (w + 1)) store) (n - from) w k lent
+  counting-rest =
+      let all : (n - from) * (w + 1) + from * (w + 1) ≡ n * (w + 1) = rw (← add-mul (n - from) from (w + 1)) (ap (λ (x : ℕ). x * (w + 1)) (omega arith)) in
+      let rest = decoded-drop w from n store l in
+      record {
+        room = rw length-drop (omega (arith, c .room));
+        narrow = c .narrow;
+        short = c .short;
+        some = c .some;
+        falls = rw rest at (below-drop (2 ^ (64 * k)) from (decoded w n store) (c .falls));
+        numbered = rw rest at (numbered-drop lent from (decoded w n store) (c .numbered));
+      }
+
+  -- the terms in front of them, and they
+  pub occurring-rest : (u : ℕ) → occurring (decoded w n store) u ≡ occurring (decoded w from store) u + occurring (drop from (decoded w n store)) u
+  occurring-rest u =
+      let both : decoded w n store ≡ decoded w from store ++ drop from (decoded w n store) =
+      sym (ap (λ (p : Polynomial). p ++ drop from (decoded w n store)) (decoded-take w from n store l) ∙ take-append-drop from (decoded w n store)) in
+      ap (λ (p : Polynomial). occurring p u) both ∙ occurring-append u (decoded w from store) (drop from (decoded w n store))

@@ -3,14 +3,15 @@
  * judge is timed against. Nothing of it is proved.
  *
  * It takes sound tables of AND gates or of lookup cells, and orders that
- * name gates or cells only, and gives the answer's letter, its step and the
- * terms held. It leaves no sorted polynomial and no log, as the proved judge
- * has to.
+ * name gates or cells only, and gives the answer's letter, its step, the
+ * terms held and how often each variable occurs in them. It leaves no sorted
+ * polynomial and no log, as the proved judge has to.
  */
 #include <stddef.h>
 #include <stdint.h>
 #include <string.h>
 
+#define VARIABLES_MOST 1023
 #define SET_WORDS_MOST 16
 #define SLOTS_LEAST 256
 #define GATE_WORDS 2
@@ -23,8 +24,8 @@ struct polynomial {
     uint32_t *slots; /* a term's place plus 1, or 0: open addressing, at most half full */
     size_t width, slot_count;
     size_t used; /* terms with a place, those whose coefficient became 0 too */
-    size_t held; /* terms whose coefficient is not 0 */
     uint64_t coefficient_bits;
+    uint32_t *occurrences; /* of the terms whose coefficient is not 0: [0] is all of them, [v] those that hold v */
 };
 
 static uint64_t *term(const struct polynomial *p, size_t place)
@@ -69,7 +70,17 @@ static void drop_zeros(struct polynomial *p)
     take_slots(p);
 }
 
-/* Gathers one term in. */
+/* Counts a term with this set once more (by is 1), or once less (by is -1). */
+static void count(struct polynomial *p, const uint64_t *set, uint32_t by)
+{
+    p->occurrences[0] += by;
+    for (size_t k = 0; k + 1 < p->width; k++) {
+        for (uint64_t left = set[k]; left; left &= left - 1)
+            p->occurrences[64 * k + (size_t)__builtin_ctzll(left)] += by;
+    }
+}
+
+/* Gathers one term in. It is counted where it appears, and no longer where it vanishes. */
 static void add(struct polynomial *p, const uint64_t *set, uint64_t coefficient)
 {
     if (2 * p->used >= p->slot_count)
@@ -81,10 +92,10 @@ static void add(struct polynomial *p, const uint64_t *set, uint64_t coefficient)
         memcpy(fresh + 1, set, (p->width - 1) * 8);
         p->slots[at] = (uint32_t)p->used;
     }
-    uint64_t *found = term(p, p->slots[at] - 1);
-    p->held -= found[0] != 0;
-    found[0] = (found[0] + coefficient) & p->coefficient_bits;
-    p->held += found[0] != 0;
+    uint64_t *found = term(p, p->slots[at] - 1), before = found[0];
+    found[0] = (before + coefficient) & p->coefficient_bits;
+    if (!before != !found[0])
+        count(p, set, before ? (uint32_t)-1 : 1);
 }
 
 /* Adds a term times some literals, each of which stands for 0, 1, x or 1 - x. */
@@ -178,7 +189,7 @@ static void add_parts(struct polynomial *p, const uint64_t *set, uint64_t coeffi
 
 /*
  * Replaces v by its gate or cell. That reads only below itself, so no term
- * put in holds v and the pass may end before them.
+ * put in holds v and the pass may end with the last that did.
  */
 static void step(struct polynomial *p, uint32_t v, const uint32_t *record, uint32_t cells)
 {
@@ -186,17 +197,16 @@ static void step(struct polynomial *p, uint32_t v, const uint32_t *record, uint3
     if (cells)
         take_parts(&parts, record);
     /* Terms of coefficient 0 are passed over in vain. */
-    if (p->used > p->held + p->held / 4 + 32)
+    if (p->used > p->occurrences[0] + p->occurrences[0] / 4 + 32)
         drop_zeros(p);
-    size_t end = p->used;
-    for (size_t k = 0; k < end; k++) {
+    for (size_t k = 0; p->occurrences[v]; k++) {
         uint64_t *taken = term(p, k), coefficient = taken[0], rest[SET_WORDS_MOST];
         if (!coefficient || !(taken[1 + v / 64] & BIT(v)))
             continue;
         memcpy(rest, taken + 1, (p->width - 1) * 8);
         rest[v / 64] ^= BIT(v);
         taken[0] = 0;
-        p->held--;
+        count(p, taken + 1, (uint32_t)-1);
         if (cells)
             add_parts(p, rest, coefficient, &parts);
         else
@@ -204,16 +214,14 @@ static void step(struct polynomial *p, uint32_t v, const uint32_t *record, uint3
     }
 }
 
-/* E, D or U, by the terms that are left after the last step. */
+/* E, D or U, by the variables that are left after the last step. */
 static char last_answer(const struct polynomial *p, uint32_t m, uint32_t i)
 {
-    for (size_t k = 0; k < p->used; k++) {
-        for (uint32_t v = i + 1; v <= m && term(p, k)[0]; v++) {
-            if (term(p, k)[1 + v / 64] & BIT(v))
-                return 'U';
-        }
+    for (uint32_t v = i + 1; v <= m; v++) {
+        if (p->occurrences[v])
+            return 'U';
     }
-    return p->held ? 'D' : 'E';
+    return p->occurrences[0] ? 'D' : 'E';
 }
 
 /* The most terms with a place: a step can make four of each, or eight with cells. The start has at most 1,089. */
@@ -233,24 +241,39 @@ size_t hash_judge_slots(uint64_t limit, uint32_t cells)
     return 8 * places(limit, cells);
 }
 
-/* Gives the letter E, D, R or U, and in shown the step and the terms held. A table of cells is told by cells not 0. */
+/*
+ * Gives the letter E, D, R or U, and in shown the step and the terms held. A
+ * table of cells is told by cells not 0. In the m + 1 words of occurrences it
+ * keeps how often each variable occurs in the polynomial held, [0] being all
+ * of its terms. They are put aside before a step that may have no room.
+ */
 char hash_judge(uint32_t m, uint32_t i, uint32_t o, const uint32_t *table, uint32_t cells, uint32_t kind,
                 uint64_t limit, const uint32_t *order, size_t order_length, uint64_t *terms, uint32_t *slots,
-                uint64_t *shown)
+                uint32_t *occurrences, uint64_t *shown)
 {
-    struct polynomial p = {terms, slots, m / 64 + 2, 0, 0, 0, BIT(o - 1) * 2 - 1};
-    size_t record_words = cells ? CELL_WORDS : GATE_WORDS;
+    struct polynomial p = {terms, slots, m / 64 + 2, 0, 0, BIT(o - 1) * 2 - 1, occurrences};
+    size_t record_words = cells ? CELL_WORDS : GATE_WORDS, bytes = ((size_t)m + 1) * sizeof *occurrences;
+    uint32_t before[VARIABLES_MOST + 1];
+    memset(occurrences, 0, bytes);
     start(&p, i, o, table, kind);
     shown[0] = shown[1] = 0;
-    if (p.held > limit)
+    if (occurrences[0] > limit) {
+        memset(occurrences, 0, bytes);
         return 'R';
-    for (size_t k = 0; k < order_length; k++) {
-        shown[0] = k + 1;
-        shown[1] = p.held;
-        step(&p, order[k], table + o + record_words * (order[k] - i - 1), cells);
-        if (p.held > limit)
-            return 'R';
     }
-    shown[1] = p.held;
+    for (size_t k = 0; k < order_length; k++) {
+        uint32_t v = order[k];
+        shown[0] = k + 1;
+        shown[1] = occurrences[0];
+        /* A cell makes up to eight terms of one, a gate up to four. */
+        if (occurrences[0] + (cells ? 7 : 3) * (uint64_t)occurrences[v] > limit)
+            memcpy(before, occurrences, bytes);
+        step(&p, v, table + o + record_words * (v - i - 1), cells);
+        if (occurrences[0] > limit) {
+            memcpy(occurrences, before, bytes);
+            return 'R';
+        }
+    }
+    shown[1] = occurrences[0];
     return last_answer(&p, m, i);
 }

@@ -102,7 +102,18 @@ fn judged(block: &Block, limit: u64, repeats: u32) -> Option<(Verdict, Times)> {
         }
         agreed = Some(verdicts[0]);
     }
+    if !count_the_same(&to_library, &to_second, &to_hash) {
+        println!("{}: DISAGREE on occurrences", block.name);
+        return None;
+    }
     agreed.map(|verdict| (verdict, times))
+}
+
+/// Whether all three left the same numbers of occurrences.
+fn count_the_same(library: &Lent, second: &Lent, hash: &LentToHash) -> bool {
+    [&library.occurrences, &second.occurrences]
+        .iter()
+        .all(|numbers| **numbers == hash.occurrences)
 }
 
 fn print_row(name: &str, [library, second, hash]: [f64; 3], answer: &str) {

@@ -28,6 +28,11 @@ impl<'a> Question<'a> {
         }
     }
 
+    /// M + 1: one for each variable, and one for the number of all terms.
+    fn occurrence_words(&self) -> usize {
+        self.counts.m as usize + 1
+    }
+
     /// The number that tells C whether the records are cells.
     fn cells(&self) -> u32 {
         number_of(self.records, 0)
@@ -54,11 +59,12 @@ impl std::fmt::Display for Verdict {
     }
 }
 
-/// The words and records lent to a judge, as many as document 01 asks. A host lends the same ones again and again.
+/// The words and records lent to a judge, as many as documents 01 and 02 ask. A host lends the same ones again and again.
 pub struct Lent {
     pub store: Vec<u64>,
     pub scratch: Vec<u64>,
     pub log: Vec<Step>,
+    pub occurrences: Vec<u32>,
 }
 
 impl Lent {
@@ -68,6 +74,7 @@ impl Lent {
             store: vec![0; words],
             scratch: vec![0; question.records.most_made() * words],
             log: vec![Step::default(); question.order.len()],
+            occurrences: vec![0; question.occurrence_words()],
         }
     }
 }
@@ -76,6 +83,7 @@ impl Lent {
 pub struct LentToHash {
     terms: Vec<u64>,
     slots: Vec<u32>,
+    pub occurrences: Vec<u32>,
 }
 
 impl LentToHash {
@@ -90,6 +98,7 @@ impl LentToHash {
         LentToHash {
             terms: vec![0; words],
             slots: vec![0; slots],
+            occurrences: vec![0; question.occurrence_words()],
         }
     }
 }
@@ -111,6 +120,7 @@ extern "C" {
         order_words: usize,
         terms: *mut u64,
         slots: *mut u32,
+        occurrences: *mut u32,
         shown: *mut u64,
     ) -> u8;
 }
@@ -128,6 +138,7 @@ pub fn by_library(question: &Question, lent: &mut Lent) -> Verdict {
             store: &mut lent.store,
             scratch: &mut lent.scratch,
             log: &mut lent.log,
+            occurrences: &mut lent.occurrences,
         },
     };
     let number = library::judge(asked, &mut answer);
@@ -152,6 +163,7 @@ pub fn by_second(question: &Question, lent: &mut Lent) -> Verdict {
         &mut lent.store,
         &mut lent.scratch,
         &mut lent.log,
+        &mut lent.occurrences,
     );
     let (letter, step, terms) = match answer {
         Answer::Equal { steps, terms } => ('E', steps, terms),
@@ -184,6 +196,7 @@ pub fn by_hash(question: &Question, lent: &mut LentToHash) -> Verdict {
             question.order.len(),
             lent.terms.as_mut_ptr(),
             lent.slots.as_mut_ptr(),
+            lent.occurrences.as_mut_ptr(),
             shown.as_mut_ptr(),
         )
     };

@@ -38,12 +38,17 @@ fn order(random: &mut Random, made: &Made) -> Vec<u32> {
     }
 }
 
-/// What the hash judge answers, if the second program answers the same.
+/// What the hash judge answers, if the second program answers the same and counts the same.
 fn agreed(made: &Made, kind: u32, limit: u64, order: &[u32]) -> Verdict {
     let question = Question::of(made, kind, limit, order);
-    let hash = by_hash(&question, &mut LentToHash::to(&question));
-    let second = by_second(&question, &mut Lent::to(&question));
-    assert_eq!(hash, second, "{made:?}, kind {kind}, T {limit}, {order:?}");
+    let (mut to_hash, mut to_second) = (LentToHash::to(&question), Lent::to(&question));
+    // A number that is left out has to be seen.
+    to_hash.occurrences.fill(u32::MAX);
+    let hash = by_hash(&question, &mut to_hash);
+    let second = by_second(&question, &mut to_second);
+    let asked = format!("{made:?}, kind {kind}, T {limit}, {order:?}");
+    assert_eq!(hash, second, "{asked}");
+    assert_eq!(to_hash.occurrences, to_second.occurrences, "{asked}");
     hash
 }
 

@@ -6,6 +6,8 @@
 #define SCRATCH_WORDS 1024
 #define CELL_SCRATCH_WORDS 2048
 #define STEPS 10
+/* No netlist here has more than 24 variables. */
+#define OCCURRENCE_WORDS 25
 /* Words past each lent buffer, and records past the log, that have to keep their mark. */
 #define GUARDS 2
 
@@ -36,6 +38,11 @@ static const uint32_t sum_table[] = {16, 22, 4, 2, 10, 6, 11, 7, 15, 13, 12, 8, 
 static const uint32_t wrong_sum_table[] = {10, 8, 4, 2, 10, 6, 11, 7, 15, 13, 12, 8, 13, 9, 21, 19};
 static const uint32_t cell_sum_table[] = {12, 16, 136, 1, 2, 0, 102, 5, 3, 0, 136, 5, 3, 0, 102, 7, 4, 0};
 
+/* Four bits, truncated: output 0 is true when all inputs are false. Then twelve bits whose outputs show nothing. */
+static const uint32_t all_false_table[] = {30, 0,  0,  0,  5,  3,  18, 7,  20,
+                                           9,  22, 11, 24, 13, 26, 15, 28, 17};
+static const uint32_t nothing_table[24] = {0};
+
 static const struct netlist p1 = {3, 2, 0, 2, 1, p1_table, 4, HRASKELL_GATES};
 static const struct netlist p3 = {3, 2, 0, 2, 1, p3_table, 4, HRASKELL_GATES};
 static const struct netlist p9 = {3, 2, 0, 2, 1, p9_table, 4, HRASKELL_GATES};
@@ -47,14 +54,18 @@ static const struct netlist two_bit_cells = {11, 4, 0, 4, 7, two_bit_table, 32, 
 static const struct netlist sum = {11, 4, 0, 2, 7, sum_table, 16, HRASKELL_GATES};
 static const struct netlist without_c0 = {11, 4, 0, 2, 7, wrong_sum_table, 16, HRASKELL_GATES};
 static const struct netlist cell_sum = {8, 4, 0, 2, 4, cell_sum_table, 18, HRASKELL_CELLS};
+static const struct netlist all_false = {15, 8, 0, 4, 7, all_false_table, 18, HRASKELL_GATES};
+static const struct netlist nothing = {24, 24, 0, 24, 0, nothing_table, 24, HRASKELL_GATES};
 
-static const uint32_t one_step[] = {3};
-static const uint32_t falling[] = {14, 13, 12, 11, 10, 9, 8, 7, 6, 5};
+static const uint32_t one_step[] = {3}, five[] = {5};
+static const uint32_t falling[] = {15, 14, 13, 12, 11, 10, 9, 8, 7, 6, 5};
+#define DOWN_FROM(gate) (falling + 15 - (gate))
 
 static uint64_t store[STORE_WORDS + GUARDS], scratch[CELL_SCRATCH_WORDS + GUARDS];
 static size_t scratch_lent; /* words of it in the last call */
 static uint64_t answer[HRASKELL_ANSWER_WORDS + GUARDS];
 static struct hraskell_step records[STEPS + GUARDS];
+static uint32_t occurrences[OCCURRENCE_WORDS + GUARDS];
 
 static void mark_words(uint64_t *words, size_t length)
 {
@@ -62,10 +73,15 @@ static void mark_words(uint64_t *words, size_t length)
         words[at] = MARK;
 }
 
-static void mark_records(void)
+static void mark_all(void)
 {
+    mark_words(store, COUNT(store));
+    mark_words(scratch, COUNT(scratch));
+    mark_words(answer, COUNT(answer));
     for (size_t at = 0; at < COUNT(records); at++)
         records[at] = (struct hraskell_step){MARK, MARK};
+    for (size_t at = 0; at < COUNT(occurrences); at++)
+        occurrences[at] = MARK;
 }
 
 /* The first words are the wanted ones, then rest up to the lent length, then marks. */
@@ -88,93 +104,135 @@ static void expect_records(const char *what, const uint32_t *order, size_t steps
     }
 }
 
+/* The first words are the wanted ones, and the others are marks. */
+static void expect_occurrences(const char *what, const uint32_t *wanted, size_t count)
+{
+    for (size_t at = 0; at < COUNT(occurrences); at++)
+        expect(what, occurrences[at], at < count ? wanted[at] : MARK);
+}
+
+static void expect_all_marks(const char *what)
+{
+    expect_words(what, answer, HRASKELL_ANSWER_WORDS, NULL, 0, MARK);
+    expect_words(what, store, STORE_WORDS, NULL, 0, MARK);
+    expect_words(what, scratch, CELL_SCRATCH_WORDS, NULL, 0, MARK);
+    expect_records(what, NULL, 0);
+    expect_occurrences(what, NULL, 0);
+}
+
 /* Judges with T = 128 on fresh buffers of the least lengths, answer of the length given. */
 static uint32_t judge(const struct netlist *n, uint32_t kind, const uint32_t *order, size_t steps,
                       size_t answer_length)
 {
-    mark_words(store, COUNT(store));
-    mark_words(scratch, COUNT(scratch));
-    mark_words(answer, COUNT(answer));
-    mark_records();
+    mark_all();
     scratch_lent = n->cells ? CELL_SCRATCH_WORDS : SCRATCH_WORDS;
     return hraskell_judge(n->m, n->i, n->l, n->o, n->a, n->table, n->table_length, n->cells, kind, 128,
-                          order, steps, store, STORE_WORDS, scratch, scratch_lent, records, steps, answer,
-                          answer_length);
+                          order, steps, store, STORE_WORDS, scratch, scratch_lent, records, steps,
+                          occurrences, HRASKELL_OCCURRENCE_WORDS(n->m), answer, answer_length);
 }
 
-/* After a call that was taken: answer, store, scratch, and in the log the gates and the last terms. */
-static void leaves(const char *what, const uint64_t *answered, size_t answered_length,
-                   const uint64_t *stored, size_t stored_length, const uint32_t *order, size_t steps)
-{
-    expect_words(what, answer, HRASKELL_ANSWER_WORDS, answered, answered_length, MARK);
-    expect_words(what, store, STORE_WORDS, stored, stored_length, 0);
-    expect_words(what, scratch, scratch_lent, NULL, 0, 0);
-    expect_records(what, order, steps);
-    expect(what, records[steps - 1].terms, answered[1]);
-}
+struct words {
+    const uint64_t *words;
+    size_t length;
+};
+#define WORDS(...) {(const uint64_t[]){__VA_ARGS__}, sizeof((const uint64_t[]){__VA_ARGS__}) / sizeof(uint64_t)}
+#define NONE {NULL, 0}
+/* All terms, then the terms with variable 1, 2 and so on; the variables not named occur nowhere. */
+#define OCCURRING(...) (const uint32_t[OCCURRENCE_WORDS]){__VA_ARGS__}
 
-static void bench_sheet(void)
-{
-    static const uint64_t p1_answer[] = {1, 0};
-    static const uint64_t p3_answer[] = {1, 1, 1, 1, 0, 3, 1}, p3_store[] = {2, 6};
-    static const uint64_t p9_answer[] = {1, 3, 1, 0, 0, 1, 0}, p9_store[] = {2, 6, 1, 4, 1, 2};
-    static const uint64_t p10_answer[] = {10, 0};
+/* A call that is taken: its answer, the polynomial left, and how often each variable occurs in that. */
+struct row {
+    const char *what;
+    const struct netlist *netlist;
+    uint32_t kind;
+    const uint32_t *order;
+    size_t steps;
+    uint32_t number;
+    struct words answered, stored;
+    const uint32_t *occurring;
+};
+
+static const struct row bench_sheet[] = {
+    {"P1", &p1, HRASKELL_PLAIN, one_step, 1, HRASKELL_EQUAL, WORDS(1, 0), NONE, OCCURRING(0)},
+    {"P3", &p3, HRASKELL_PLAIN, one_step, 1, HRASKELL_DIFFERS, WORDS(1, 1, 1, 1, 0, 3, 1), WORDS(2, 6),
+     OCCURRING(1, 1, 1)},
+    /* x3 - ab. */
+    {"P6", &p1, HRASKELL_PLAIN, one_step, 0, HRASKELL_UNFINISHED, WORDS(0, 2), WORDS(1, 8, 3, 6),
+     OCCURRING(2, 1, 1, 1)},
+    /* a + b + 2ab. */
+    {"P9", &p9, HRASKELL_PLAIN, one_step, 1, HRASKELL_DIFFERS, WORDS(1, 3, 1, 0, 0, 1, 0),
+     WORDS(2, 6, 1, 4, 1, 2), OCCURRING(3, 2, 2)},
+    {"P10", &p10, HRASKELL_PLAIN, DOWN_FROM(14), 10, HRASKELL_EQUAL, WORDS(10, 0), NONE, OCCURRING(0)},
+    /* x14 is 1 - x13 - x12 + x12 x13: 4 + x5 + 2 x11 + 4 x12 - 4 x13 + 4 x12 x13, less the four products. */
+    {"P10, one step", &p10, HRASKELL_PLAIN, DOWN_FROM(14), 1, HRASKELL_UNFINISHED, WORDS(1, 10),
+     WORDS(4, 12288, 12, 8192, 4, 4096, 2, 2048, 1, 32, 12, 20, 14, 18, 14, 12, 15, 10, 4, 0),
+     OCCURRING(10, 2, 2, 2, 2, 1, 0, 0, 0, 0, 0, 1, 2, 2)},
     /* Plain minus signed is 4 a_0 b_1 + 4 a_1 b_0: variables 1, 4 and 2, 3. */
-    static const uint64_t p11_answer[] = {10, 2, 2, 1, 0, 2, 14}, p11_store[] = {4, 18, 4, 12};
-    expect("P1", judge(&p1, HRASKELL_PLAIN, one_step, 1, 7), HRASKELL_EQUAL);
-    leaves("P1", p1_answer, 2, NULL, 0, one_step, 1);
-    expect("P3", judge(&p3, HRASKELL_PLAIN, one_step, 1, 7), HRASKELL_DIFFERS);
-    leaves("P3", p3_answer, 7, p3_store, 2, one_step, 1);
-    expect("P9", judge(&p9, HRASKELL_PLAIN, one_step, 1, 7), HRASKELL_DIFFERS);
-    leaves("P9", p9_answer, 7, p9_store, 6, one_step, 1);
-    expect("P10", judge(&p10, HRASKELL_PLAIN, falling, 10, 7), HRASKELL_EQUAL);
-    leaves("P10", p10_answer, 2, NULL, 0, falling, 10);
-    expect("P11", judge(&p10, HRASKELL_SIGNED, falling, 10, 7), HRASKELL_DIFFERS);
-    leaves("P11", p11_answer, 7, p11_store, 4, falling, 10);
-}
+    {"P11", &p10, HRASKELL_SIGNED, DOWN_FROM(14), 10, HRASKELL_DIFFERS, WORDS(10, 2, 2, 1, 0, 2, 14),
+     WORDS(4, 18, 4, 12), OCCURRING(2, 1, 1, 1, 1)},
+};
 
-static void lookup_cells(void)
-{
-    static const uint32_t five[] = {5};
-    static const uint64_t cell_answer[] = {1, 0}, two_bit_answer[] = {7, 0};
+static const struct row lookup_cells[] = {
+    {"P1 as a cell", &one_cell, HRASKELL_PLAIN, one_step, 1, HRASKELL_EQUAL, WORDS(1, 0), NONE, OCCURRING(0)},
     /* a0 + a1 + b0 - 2 a0 a1 - 2 a0 b0 - 2 a1 b0 + 4 a0 a1 b0, less the four products, modulo 16. */
-    static const uint64_t parity_answer[] = {1, 9, 1, 0, 0, 1, 0};
-    static const uint64_t parity_store[] = {12, 20, 14, 18, 4, 14, 12, 12, 13, 10, 1, 8, 14, 6, 1, 4, 1, 2};
+    {"byte 150", &parity, HRASKELL_PLAIN, five, 1, HRASKELL_DIFFERS, WORDS(1, 9, 1, 0, 0, 1, 0),
+     WORDS(12, 20, 14, 18, 4, 14, 12, 12, 13, 10, 1, 8, 14, 6, 1, 4, 1, 2), OCCURRING(9, 5, 5, 4, 2)},
+    {"two bits of cells", &two_bit_cells, HRASKELL_PLAIN, DOWN_FROM(11), 7, HRASKELL_EQUAL, WORDS(7, 0), NONE,
+     OCCURRING(0)},
     /* As P11: the block is right when plain, and the last polynomial is that of any such block. */
-    static const uint64_t signed_answer[] = {7, 2, 2, 1, 0, 2, 14}, signed_store[] = {4, 18, 4, 12};
-    const uint32_t *seven_down = falling + 3;
-    expect("P1 as a cell", judge(&one_cell, HRASKELL_PLAIN, one_step, 1, 7), HRASKELL_EQUAL);
-    leaves("P1 as a cell", cell_answer, 2, NULL, 0, one_step, 1);
-    expect("byte 150", judge(&parity, HRASKELL_PLAIN, five, 1, 7), HRASKELL_DIFFERS);
-    leaves("byte 150", parity_answer, 7, parity_store, 18, five, 1);
-    expect("two bits of cells", judge(&two_bit_cells, HRASKELL_PLAIN, seven_down, 7, 7), HRASKELL_EQUAL);
-    leaves("two bits of cells", two_bit_answer, 2, NULL, 0, seven_down, 7);
-    expect("the same under s", judge(&two_bit_cells, HRASKELL_SIGNED, seven_down, 7, 7), HRASKELL_DIFFERS);
-    leaves("the same under s", signed_answer, 7, signed_store, 4, seven_down, 7);
-}
+    {"the same under s", &two_bit_cells, HRASKELL_SIGNED, DOWN_FROM(11), 7, HRASKELL_DIFFERS,
+     WORDS(7, 2, 2, 1, 0, 2, 14), WORDS(4, 18, 4, 12), OCCURRING(2, 1, 1, 1, 1)},
+};
 
 /* Document 02, section 12: a·b + c modulo 4. Of one bit, -1·-1 is 1 as 1·1 is. */
-static void multiply_and_add(void)
-{
-    static const uint64_t sum_answer[] = {7, 0}, cell_answer[] = {4, 0};
-    static const uint64_t wrong_answer[] = {7, 1, 0, 0, 1, 0, 1}, wrong_store[] = {3, 8};
+static const struct row multiply_and_add[] = {
+    {"a sum", &sum, HRASKELL_MULTIPLY_ADD, DOWN_FROM(11), 7, HRASKELL_EQUAL, WORDS(7, 0), NONE, OCCURRING(0)},
+    {"a signed sum", &sum, HRASKELL_MULTIPLY_ADD_SIGNED, DOWN_FROM(11), 7, HRASKELL_EQUAL, WORDS(7, 0), NONE,
+     OCCURRING(0)},
+    {"a sum of cells", &cell_sum, HRASKELL_MULTIPLY_ADD, DOWN_FROM(8), 4, HRASKELL_EQUAL, WORDS(4, 0), NONE,
+     OCCURRING(0)},
+    {"a signed sum of cells", &cell_sum, HRASKELL_MULTIPLY_ADD_SIGNED, DOWN_FROM(8), 4, HRASKELL_EQUAL,
+     WORDS(4, 0), NONE, OCCURRING(0)},
+    /* -c_0 is left: variable 3. */
+    {"c_0 left out", &without_c0, HRASKELL_MULTIPLY_ADD, DOWN_FROM(11), 7, HRASKELL_DIFFERS,
+     WORDS(7, 1, 0, 0, 1, 0, 1), WORDS(3, 8), OCCURRING(1, 0, 0, 1)},
+    {"c_0 left out, signed", &without_c0, HRASKELL_MULTIPLY_ADD_SIGNED, DOWN_FROM(11), 7, HRASKELL_DIFFERS,
+     WORDS(7, 1, 0, 0, 1, 0, 1), WORDS(3, 8), OCCURRING(1, 0, 0, 1)},
     /* Under t x1 x2 + x3 + 2 x4 is shown, and x1 x3 + 2 x1 x4 + 2 x2 x3 is wanted. */
-    static const uint64_t cut_answer[] = {7, 6, 0, 1, 0, 1, 0};
-    static const uint64_t cut_store[] = {2, 18, 2, 16, 2, 12, 3, 10, 1, 8, 1, 6};
-    const uint32_t *seven_down = falling + 3, *four_down = falling + 6;
-    const uint32_t kinds[] = {HRASKELL_MULTIPLY_ADD, HRASKELL_MULTIPLY_ADD_SIGNED};
-    for (size_t at = 0; at < COUNT(kinds); at++) {
-        expect("a sum", judge(&sum, kinds[at], seven_down, 7, 7), HRASKELL_EQUAL);
-        leaves("a sum", sum_answer, 2, NULL, 0, seven_down, 7);
-        expect("a sum of cells", judge(&cell_sum, kinds[at], four_down, 4, 7), HRASKELL_EQUAL);
-        leaves("a sum of cells", cell_answer, 2, NULL, 0, four_down, 4);
-        expect("c_0 left out", judge(&without_c0, kinds[at], seven_down, 7, 7), HRASKELL_DIFFERS);
-        leaves("c_0 left out", wrong_answer, 7, wrong_store, 2, seven_down, 7);
+    {"a sum under t", &sum, HRASKELL_TRUNCATED, DOWN_FROM(11), 7, HRASKELL_DIFFERS, WORDS(7, 6, 0, 1, 0, 1, 0),
+     WORDS(2, 18, 2, 16, 2, 12, 3, 10, 1, 8, 1, 6), OCCURRING(6, 3, 2, 3, 2)},
+};
+
+/* Answer, store, scratch and occurrences, and in the log the gates and the last terms. */
+static void judges(const struct row *rows, size_t count)
+{
+    for (const struct row *row = rows; row < rows + count; row++) {
+        expect(row->what, judge(row->netlist, row->kind, row->order, row->steps, 7), row->number);
+        expect_words(row->what, answer, HRASKELL_ANSWER_WORDS, row->answered.words, row->answered.length, MARK);
+        expect_words(row->what, store, STORE_WORDS, row->stored.words, row->stored.length, 0);
+        expect_words(row->what, scratch, scratch_lent, NULL, 0, 0);
+        expect_records(row->what, row->order, row->steps);
+        if (row->steps)
+            expect(row->what, records[row->steps - 1].terms, row->answered.words[1]);
+        expect_occurrences(row->what, row->occurring, HRASKELL_OCCURRENCE_WORDS(row->netlist->m));
     }
-    expect("a sum under t", judge(&sum, HRASKELL_TRUNCATED, seven_down, 7, 7), HRASKELL_DIFFERS);
-    leaves("a sum under t", cut_answer, 7, cut_store, 12, seven_down, 7);
-    expect("number of m", HRASKELL_MULTIPLY_ADD, 3);
-    expect("number of ms", HRASKELL_MULTIPLY_ADD_SIGNED, 4);
+}
+
+/* At R the occurrences are those of the polynomial held; at step 0 none is. */
+static void out_of_room(void)
+{
+    static const uint64_t at_start[] = {0, 0}, at_step_7[] = {7, 74};
+    static const uint32_t none[25] = {0};
+    /* The products below 2^4, and the 64 terms of x9 (1 - x3)···(1 - x8). */
+    static const uint32_t held[] = {74, 4, 3, 34, 33, 36, 35, 34, 33, 64, 0, 0, 0, 0, 0, 0};
+    expect("R at step 0", judge(&nothing, HRASKELL_PLAIN, falling, 0, 7), HRASKELL_OUT_OF_ROOM);
+    expect_words("R at step 0", answer, HRASKELL_ANSWER_WORDS, at_start, 2, MARK);
+    expect_words("R at step 0", store, STORE_WORDS, NULL, 0, 0);
+    expect_occurrences("R at step 0", none, 25);
+    expect("R at step 7", judge(&all_false, HRASKELL_TRUNCATED, falling, 7, 7), HRASKELL_OUT_OF_ROOM);
+    expect_words("R at step 7", answer, HRASKELL_ANSWER_WORDS, at_step_7, 2, MARK);
+    expect_records("R at step 7", falling, 6);
+    expect_occurrences("R at step 7", held, 16);
 }
 
 /* A refusal leaves every word as it was. */
@@ -182,10 +240,7 @@ static void refuses(const char *what, const struct netlist *n, uint32_t kind, co
                     size_t answer_length, uint32_t number)
 {
     expect(what, judge(n, kind, order, 1, answer_length), number);
-    expect_words(what, answer, HRASKELL_ANSWER_WORDS, NULL, 0, MARK);
-    expect_words(what, store, STORE_WORDS, NULL, 0, MARK);
-    expect_words(what, scratch, scratch_lent, NULL, 0, MARK);
-    expect_records(what, NULL, 0);
+    expect_all_marks(what);
 }
 
 static void refusals(void)
@@ -230,15 +285,16 @@ static void cells_refused(void)
 {
     static const uint32_t byte_255[] = {6, 0, 255, 1, 2, 0, UINT32_MAX}, byte_256[] = {6, 0, 256, 1, 2, 0};
     static const uint32_t own_first[] = {6, 0, 136, 3, 2, 0}, own_last[] = {6, 0, 136, 1, 2, 3};
-    static const uint64_t constant[] = {1, 2, 0, 0, 0, 1, 0}, constant_store[] = {3, 6, 1, 0};
     const struct netlist taken = {3, 2, 0, 2, 1, byte_255, 7, HRASKELL_CELLS};
+    /* The cell is the constant 1, and ab is wanted. */
+    const struct row constant = {"byte 255", &taken, HRASKELL_PLAIN, one_step, 1, HRASKELL_DIFFERS,
+                                 WORDS(1, 2, 0, 0, 0, 1, 0), WORDS(3, 6, 1, 0), OCCURRING(2, 1, 1)};
     const struct netlist past_byte = {3, 2, 0, 2, 1, byte_256, 6, HRASKELL_CELLS};
     const struct netlist reads_itself = {3, 2, 0, 2, 1, own_first, 6, UINT32_MAX};
     const struct netlist reads_itself_last = {3, 2, 0, 2, 1, own_last, 6, HRASKELL_CELLS};
     const struct netlist one_short = {3, 2, 0, 2, 1, cell_table, 5, HRASKELL_CELLS};
     const struct netlist as_long_as_gates = {3, 2, 0, 2, 1, cell_table, 4, UINT32_MAX};
-    expect("byte 255", judge(&taken, HRASKELL_PLAIN, one_step, 1, 7), HRASKELL_DIFFERS);
-    leaves("byte 255", constant, 7, constant_store, 4, one_step, 1);
+    judges(&constant, 1);
     refuses("byte 256", &past_byte, HRASKELL_PLAIN, one_step, 7, 108);
     refuses("cell that reads itself", &reads_itself, HRASKELL_PLAIN, one_step, 7, 108);
     refuses("cell that reads itself last", &reads_itself_last, HRASKELL_PLAIN, one_step, 7, 108);
@@ -246,33 +302,61 @@ static void cells_refused(void)
     refuses("O + 2A words for cells", &as_long_as_gates, HRASKELL_PLAIN, one_step, 7, 103);
 }
 
-/* T outside its limits, and each lent buffer one word or record short. */
+/* T outside its limits, and each lent buffer one word or record short. What is refused changes nothing. */
 static void lengths(void)
 {
     static const struct {
         uint32_t cells;
         uint64_t limit;
-        size_t store, scratch, log;
+        size_t store, scratch, log, occurrences;
         uint32_t number;
     } rows[] = {
-        {0, 127, 256, 1024, 1, 110},        {0, 16385, 256, 1024, 1, 110}, {0, 129, 256, 1024, 1, 112},
-        {0, 128, 255, 1024, 1, 112},        {0, 128, 256, 1023, 1, 112},   {0, 128, 256, 1024, 0, 112},
-        {0, 128, 256, 1024, 1, 0},          {1, 127, 256, 2048, 1, 110},   {1, 128, 255, 2048, 1, 112},
-        {1, 128, 256, 1024, 1, 112},        {1, 128, 256, 2047, 1, 112},   {1, 128, 256, 2048, 0, 112},
-        {UINT32_MAX, 128, 256, 2047, 1, 112}, {UINT32_MAX, 128, 256, 2048, 1, 0},
+        {0, 127, 256, 1024, 1, 4, 110},          {0, 16385, 256, 1024, 1, 4, 110},
+        {0, 129, 256, 1024, 1, 4, 112},          {0, 128, 255, 1024, 1, 4, 112},
+        {0, 128, 256, 1023, 1, 4, 112},          {0, 128, 256, 1024, 0, 4, 112},
+        {0, 128, 256, 1024, 1, 3, 112},          {0, 128, 256, 1024, 1, 0, 112},
+        {0, 127, 256, 1024, 1, 3, 110},          {0, 128, 256, 1024, 1, 4, 0},
+        {1, 127, 256, 2048, 1, 4, 110},          {1, 128, 255, 2048, 1, 4, 112},
+        {1, 128, 256, 1024, 1, 4, 112},          {1, 128, 256, 2047, 1, 4, 112},
+        {1, 128, 256, 2048, 0, 4, 112},          {1, 128, 256, 2048, 1, 3, 112},
+        {UINT32_MAX, 128, 256, 2047, 1, 4, 112}, {UINT32_MAX, 128, 256, 2048, 1, 4, 0},
     };
     for (size_t at = 0; at < COUNT(rows); at++) {
         const struct netlist *n = rows[at].cells ? &one_cell : &p1;
+        mark_all();
         expect("limit and lengths",
                hraskell_judge(3, 2, 0, 2, 1, n->table, n->table_length, rows[at].cells, HRASKELL_PLAIN,
                               rows[at].limit, one_step, 1, store, rows[at].store, scratch, rows[at].scratch,
-                              records, rows[at].log, answer, 7),
+                              records, rows[at].log, occurrences, rows[at].occurrences, answer, 7),
                rows[at].number);
+        if (rows[at].number)
+            expect_all_marks("limit and lengths");
     }
+}
+
+/* More words than are asked for: those past M + 1 keep their values, whatever is answered. */
+static void longer_occurrences(void)
+{
+    static const uint32_t p3_occurring[] = {1, 1, 1, 0};
+    for (size_t length = 4; length <= OCCURRENCE_WORDS; length++) {
+        mark_all();
+        expect("longer occurrences",
+               hraskell_judge(3, 2, 0, 2, 1, p3_table, 4, HRASKELL_GATES, HRASKELL_PLAIN, 128, one_step, 1, store,
+                              STORE_WORDS, scratch, SCRATCH_WORDS, records, 1, occurrences, length, answer, 7),
+               HRASKELL_DIFFERS);
+        expect_occurrences("longer occurrences", p3_occurring, 4);
+    }
+}
+
+static void numbers_of_the_header(void)
+{
+    expect("number of m", HRASKELL_MULTIPLY_ADD, 3);
+    expect("number of ms", HRASKELL_MULTIPLY_ADD_SIGNED, 4);
     expect("words of the store", HRASKELL_STORE_WORDS(3, 128), STORE_WORDS);
     expect("words of scratch", HRASKELL_SCRATCH_WORDS(3, 128), SCRATCH_WORDS);
     expect("words of scratch for cells", HRASKELL_CELL_SCRATCH_WORDS(3, 128), CELL_SCRATCH_WORDS);
     expect("words of a term, M 1,023", HRASKELL_TERM_WORDS(1023), 17);
+    expect("words of occurrences, M 1,023", HRASKELL_OCCURRENCE_WORDS(1023), 1024);
     /* 64 outputs, and 1,021 gates or cells on two inputs. */
     expect("longest table of gates", HRASKELL_TABLE_WORDS_MOST, 64 + 2 * 1021);
     expect("longest table of cells", HRASKELL_CELL_TABLE_WORDS_MOST, 64 + 4 * 1021);
@@ -282,12 +366,15 @@ static void lengths(void)
 
 int main(void)
 {
-    bench_sheet();
-    lookup_cells();
-    multiply_and_add();
+    judges(bench_sheet, COUNT(bench_sheet));
+    judges(lookup_cells, COUNT(lookup_cells));
+    judges(multiply_and_add, COUNT(multiply_and_add));
+    out_of_room();
     refusals();
     sums_refused();
     cells_refused();
     lengths();
+    longer_occurrences();
+    numbers_of_the_header();
     return verdict("judging from C");
 }

@@ -47,6 +47,8 @@ extern "C" {
         scratch_words: usize,
         log: *mut Step,
         log_records: usize,
+        occurrences: *mut u32,
+        occurrences_words: usize,
         answer: *mut u64,
         answer_words: usize,
     ) -> u32;
@@ -95,6 +97,7 @@ pub fn judge(question: Question, answer: &mut [u64]) -> u32 {
             lent.store.as_mut_ptr(), lent.store.len(),
             lent.scratch.as_mut_ptr(), lent.scratch.len(),
             lent.log.as_mut_ptr(), lent.log.len(),
+            lent.occurrences.as_mut_ptr(), lent.occurrences.len(),
             answer.as_mut_ptr(), answer.len(),
         )
     }

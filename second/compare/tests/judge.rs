@@ -5,8 +5,8 @@ use compare::outcome::{first_difference, numbers_given, Guarded, Outcome, GUARDS
 use compare::{library, Question};
 use second::cases::adding::{one_bit, only_c};
 use second::cases::cells::{and_cell, cell};
-use second::cases::judgements::{self, and_netlist, two_bits, JudgeCase};
-use second::cases::{marked_words, runs};
+use second::cases::judgements::{self, all_false, and_netlist, two_bits, JudgeCase};
+use second::cases::{marked_numbers, marked_words, occurrences, runs};
 use second::cell_netlists::gates_as_cells;
 use second::netlists::{random_for, random_sound, Made};
 use second::orders;
@@ -46,6 +46,7 @@ impl Call {
         let mut store = Guarded::<u64>::marked(case.store_words);
         let mut scratch = Guarded::<u64>::marked(case.scratch_words);
         let mut log = Guarded::<Step>::marked(case.log_records);
+        let mut occurrences = Guarded::<u32>::marked(case.occurrence_words);
         let mut answer = Guarded::<u64>::marked(self.answer_words);
         let question = Question {
             counts: case.counts,
@@ -58,6 +59,7 @@ impl Call {
                 store: store.lent_mut(),
                 scratch: scratch.lent_mut(),
                 log: log.lent_mut(),
+                occurrences: occurrences.lent_mut(),
             },
         };
         let number = judge(question, answer.lent_mut());
@@ -67,6 +69,7 @@ impl Call {
                 answer.named("answer"),
                 store.named("store"),
                 log.records_named("log"),
+                occurrences.named("occurrences"),
                 scratch.named("scratch"),
                 table.named("table"),
                 order.named("order"),
@@ -104,6 +107,10 @@ fn calls() -> Vec<Call> {
         }
         let answer_words = random.pick(&[7, 7, 7, 7, 7, 7, 8, 11, 6]);
         calls.push(Call::lending(case, answer_words));
+    }
+    for turn in 0..1_000 {
+        let case = occurrences::random(&mut random, Records::ALL[turn % 2]);
+        calls.push(Call::new(case));
     }
     calls
 }
@@ -342,6 +349,71 @@ fn seven_words_are_enough_for_every_answer_and_six_for_none() {
     let outcome = differing.by_library();
     assert_eq!(outcome.words("answer")[..7], [1, 1, 1, 1, 0, 3, 1]);
     assert_eq!(outcome.words("answer")[7..], marked_words(9 + GUARDS)[7..]);
+}
+
+/// A name, a case that is taken, and how often each variable occurs in the polynomial held.
+type Counted = (&'static str, JudgeCase, &'static [u32]);
+
+/// Entries worked out by hand from document 02, section 6: all terms, then the variables from 1 to M.
+#[rustfmt::skip]
+fn counted_by_hand() -> Vec<Counted> {
+    let judged = |made: &Made, kind, order: &[u32]| JudgeCase::new(made, kind, 128, order.to_vec());
+    let and = |outputs: &[u32], order: &[u32]| judged(&and_netlist(outputs), 0, order);
+    let falling = orders::falling(two_bits().counts);
+    let down_to_nine = orders::falling(all_false().counts);
+    let parity = Made::of_cells(4, &[10, 0, 0, 0], &[cell(150, 1, 2, 3)]);
+    let only_products = Made::new(24, &[0; 24], &[]);
+    vec![
+        ("P1: 0", and(&[6, 0], &[3]), &[0, 0, 0, 0]),
+        ("P3: 2ab", and(&[6, 6], &[3]), &[1, 1, 1, 0]),
+        ("P5: 1 - 2ab", and(&[7, 0], &[3]), &[2, 1, 1, 0]),
+        ("P6: x3 - ab", and(&[6, 0], &[]), &[2, 1, 1, 1]),
+        // x5, x11, x12 and x14, and four products.
+        ("P10 at the start", judged(&two_bits(), 0, &[]), &[8, 2, 2, 2, 2, 1, 0, 0, 0, 0, 0, 1, 1, 0, 1]),
+        // x14 is 1 - x13 - x12 + x12 x13.
+        ("P10, one step", judged(&two_bits(), 0, &falling[..1]), &[10, 2, 2, 2, 2, 1, 0, 0, 0, 0, 0, 1, 2, 2, 0]),
+        ("P11: 4 a0 b1 + 4 a1 b0", judged(&two_bits(), 1, &falling), &[2, 1, 1, 1, 1, 0, 0, 0, 0, 0, 0, 0, 0, 0, 0]),
+        // The products below 2^4, and x9 (1 - x3)···(1 - x8).
+        ("R at step 7", judged(&all_false(), 2, &down_to_nine), &[74, 4, 3, 34, 33, 36, 35, 34, 33, 64, 0, 0, 0, 0, 0, 0]),
+        ("R at step 0", judged(&only_products, 0, &[]), &[0; 25]),
+        // a0 + a1 + b0 - 2 a0 a1 - 3 a0 b0 - 4 a1 b0 + 4 a0 a1 b0 - 2 a0 b1 - 4 a1 b1.
+        ("byte 150", judged(&parity, 0, &[5]), &[9, 5, 5, 4, 2, 0]),
+        // 2 x11 + x8 - 2 c1 - c0 - ab.
+        ("a sum at the start", judged(&one_bit(&[16, 22]), 3, &[]), &[5, 1, 1, 1, 1, 0, 0, 0, 1, 0, 0, 1]),
+    ]
+}
+
+#[test]
+fn variables_are_counted_as_by_hand_and_words_past_them_kept() {
+    for (name, mut case, expected) in counted_by_hand() {
+        for more in [0, 1, 6] {
+            case.occurrence_words = expected.len() + more;
+            let outcome = Call::new(case.clone()).by_library();
+            assert!(outcome.number <= 3, "{name}: {}", outcome.number);
+            let (counted, past) = outcome.words("occurrences").split_at(expected.len());
+            assert!(
+                counted.iter().eq(widened(expected).iter()),
+                "{name}: {counted:?}"
+            );
+            let marks = marked_numbers(case.occurrence_words + GUARDS);
+            assert_eq!(past, &widened(&marks)[expected.len()..], "{name}");
+        }
+    }
+}
+
+fn widened(numbers: &[u32]) -> Vec<u64> {
+    numbers.iter().map(|&number| number.into()).collect()
+}
+
+#[test]
+fn one_word_less_than_m_plus_1_is_refused_and_changes_nothing() {
+    for (name, mut case, expected) in counted_by_hand() {
+        case.occurrence_words = expected.len() - 1;
+        let outcome = Call::new(case.clone()).by_library();
+        assert_eq!(outcome.number, 112, "{name}");
+        let nobody = Call::new(case).outcome(|_, _| 112);
+        assert!(outcome == nobody, "{name}: a word was changed");
+    }
 }
 
 #[test]

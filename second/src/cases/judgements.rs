@@ -2,7 +2,7 @@
 
 use super::pairs::wrong_netlists;
 use super::texts::made_at_limits;
-use super::{adding, cells, marked_steps, marked_words};
+use super::{adding, cells, marked_numbers, marked_steps, marked_words, occurrences};
 use crate::judge::{judge_by, Answer};
 use crate::netlists::{random_for, right_multiplier, with_fault, Made};
 use crate::orders;
@@ -24,6 +24,7 @@ pub struct JudgeCase {
     pub store_words: usize,
     pub scratch_words: usize,
     pub log_records: usize,
+    pub occurrence_words: usize,
 }
 
 #[derive(Clone, Debug, PartialEq, Eq)]
@@ -32,6 +33,7 @@ pub struct JudgeSeen {
     pub store: Vec<u64>,
     pub scratch: Vec<u64>,
     pub log: Vec<Step>,
+    pub occurrences: Vec<u32>,
 }
 
 impl JudgeCase {
@@ -49,6 +51,7 @@ impl JudgeCase {
             store_words,
             scratch_words: made.records.most_made() * store_words,
             log_records: order.len(),
+            occurrence_words: made.counts.m.min(1_024) as usize + 1,
             order,
         }
     }
@@ -57,10 +60,12 @@ impl JudgeCase {
         let mut store = marked_words(self.store_words);
         let mut scratch = marked_words(self.scratch_words);
         let mut log = marked_steps(self.log_records);
+        let mut occurrences = marked_numbers(self.occurrence_words);
         let lent = Lent {
             store: &mut store,
             scratch: &mut scratch,
             log: &mut log,
+            occurrences: &mut occurrences,
         };
         let (table, order) = (&self.table, &self.order);
         let answer = judge_by(
@@ -78,6 +83,7 @@ impl JudgeCase {
             store,
             scratch,
             log,
+            occurrences,
         }
     }
 }
@@ -136,6 +142,7 @@ pub fn edges() -> Vec<JudgeCase> {
     cases.extend(two_refusals(&and_netlist(&[6, 0])));
     cases.extend(cells::judgements());
     cases.extend(adding::judgements());
+    cases.extend(occurrences::judgements());
     cases
 }
 
@@ -213,19 +220,22 @@ fn lengths() -> Vec<JudgeCase> {
         JudgeCase::new(&and_netlist(&[6, 6]), 0, 128, vec![3]),
         JudgeCase::new(&all_false(), 2, 128, orders::falling(all_false().counts)),
     ] {
-        for (store, scratch, log) in [
-            (-1, 0, 0),
-            (0, -1, 0),
-            (0, 0, -1),
-            (3, 0, 0),
-            (0, 5, 0),
-            (0, 0, 2),
-            (7, 7, 3),
+        for (store, scratch, log, occurrences) in [
+            (-1, 0, 0, 0),
+            (0, -1, 0, 0),
+            (0, 0, -1, 0),
+            (0, 0, 0, -1),
+            (3, 0, 0, 0),
+            (0, 5, 0, 0),
+            (0, 0, 2, 0),
+            (0, 0, 0, 4),
+            (7, 7, 3, 5),
         ] {
             let mut case = base.clone();
             case.store_words = case.store_words.wrapping_add_signed(store);
             case.scratch_words = case.scratch_words.wrapping_add_signed(scratch);
             case.log_records = case.log_records.wrapping_add_signed(log);
+            case.occurrence_words = case.occurrence_words.wrapping_add_signed(occurrences);
             cases.push(case);
         }
     }
@@ -254,7 +264,7 @@ pub fn two_refusals(made: &Made) -> Vec<JudgeCase> {
 
 /// The same for any case that is taken.
 pub fn two_refusals_of(right: &JudgeCase) -> Vec<JudgeCase> {
-    let wrong: [fn(&mut JudgeCase); 9] = [
+    let wrong: [fn(&mut JudgeCase); 10] = [
         |case| case.counts.l = 1,
         |case| case.table.truncate(3),
         |case| case.table[0] = 2 * case.counts.m + 2,
@@ -264,6 +274,7 @@ pub fn two_refusals_of(right: &JudgeCase) -> Vec<JudgeCase> {
         |case| case.order = vec![2],
         |case| case.order = vec![3; 4_097],
         |case| case.store_words = 100,
+        |case| case.occurrence_words = case.counts.m as usize,
     ];
     let mut cases = Vec::new();
     for (place, one) in wrong.iter().enumerate() {
@@ -292,6 +303,7 @@ pub fn random(random: &mut Random, records: Records) -> JudgeCase {
         case.store_words += random.below(4);
         case.scratch_words += random.below(4);
         case.log_records += random.below(3);
+        case.occurrence_words += random.below(4);
     }
     case
 }

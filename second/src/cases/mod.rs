@@ -9,6 +9,7 @@ pub mod cells;
 pub mod damages;
 pub mod desks;
 pub mod judgements;
+pub mod occurrences;
 pub mod pairs;
 pub mod runs;
 pub mod texts;

@@ -18,6 +18,7 @@ pub fn lend_more(random: &mut Random, case: &mut JudgeCase) {
     case.store_words += random.below(9);
     case.scratch_words += random.below(9);
     case.log_records += random.below(5);
+    case.occurrence_words += random.below(9);
 }
 
 /// A run with T one below, at and one above the number of terms that it has after one of its steps.
@@ -140,7 +141,7 @@ pub fn real_blocks() -> Vec<JudgeCase> {
 type Wrong = fn(&mut Random, &mut JudgeCase);
 
 /// Ways to be refused, in the order of checks.
-const WRONGS: [Wrong; 10] = [
+const WRONGS: [Wrong; 11] = [
     |random, case| case.counts = wrong::wrong_counts(random, case.counts),
     |random, case| {
         let needed = case.counts.table_words(case.records) as usize;
@@ -185,6 +186,7 @@ const WRONGS: [Wrong; 10] = [
         }
     },
     |_, case| case.log_records = case.order.len().saturating_sub(1),
+    |random, case| case.occurrence_words = random.pick(&[0, 1, case.counts.m as usize]),
 ];
 
 /// Every pair of ways to be refused, and every way alone, each on a case of its own that is taken without them.

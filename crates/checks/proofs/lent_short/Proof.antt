@@ -31,9 +31,15 @@ mul-result-3 c =
     let p = c .before .before .before .pre in
     record { fits = lent-fits _ _ (p .0) (rw (c .most-made .ensures) (made-few _ _ (p .1))) }
 
+cast-result : tie.Need-cast-result
+cast-result c = search needs
+
+add-result : tie.Need-add-result
+add-result c = search needs
+
 returns : tie.Need-returns
 unfolding lent-short scratch-needed term-width set-width
-returns c = rw (c .before .before .most-made .ensures)
+returns c = rw (c .before .before .before .before .most-made .ensures)
 
 pub lent-short-spec : {M : Type 1} → statement M
 lent-short-spec =
@@ -46,4 +52,6 @@ lent-short-spec =
     most-made-requires
     mul-result-2
     mul-result-3
+    cast-result
+    add-result
     returns)

@@ -11,12 +11,12 @@ use Rattle.tally.proofs.mark_set.Statement.{statement}
 use Rattle.tally.proofs.mark_set.Tie as tie
 
 abbrev Inv-loop : tie.InvT-loop
-Inv-loop words at w by numbers₀ j₀ numbers j =
-    (j ≤ w) × Marked by (bit (num (words-at words at j))) numbers₀ numbers
+Inv-loop words at k by numbers₀ j₀ numbers j =
+    (j ≤ k) × Marked by (bit (num (words-at words at j))) numbers₀ numbers
 
 abbrev μ-loop : tie.MeasureT-loop
-μ-loop words at w by numbers₀ j₀ numbers j =
-    w - j
+μ-loop words at k by numbers₀ j₀ numbers j =
+    k - j
 
 loop-holds : tie.Need-loop-holds Inv-loop μ-loop
 unfolding num
@@ -42,7 +42,7 @@ mark-word-requires c κs =
     let s = c .before .before .before .before .before in
     let a = s .before .args in
     let p = s .before .pre in
-    (omega (arith, p .1), rw (l .inv .1 .long) (word-within (a .words .now) (a .at) (λ u. s .shared-slice-known .given u .fits) (l .j) (a .w) _ (omega arith) (p .2)))
+    (omega (arith, p .1), rw (l .inv .1 .long) (word-within (a .words .now) (a .at) (λ u. s .shared-slice-known .given u .fits) (l .j) (a .k) _ (omega arith) (p .2)))
 
 add-j : tie.Need-add-j Inv-loop μ-loop
 add-j c = omega arith
@@ -63,7 +63,7 @@ same-length c = c .before .loop .inv .1 .long
 returns : tie.Need-returns Inv-loop μ-loop
 returns c =
     let l = c .before .loop in
-    let e : l .j ≡ c .before .before .before .before .args .w = omega arith in
+    let e : l .j ≡ c .before .before .before .before .args .k = omega arith in
     rw e at (l .inv .1)
 
 pub mark-set-spec : {M : Type 1} → statement M

@@ -3,13 +3,13 @@ use mathlib.Core.Path.{_≡_, refl, _∙_}
 use Prim.Native.Nat.{ℕ, _+_, _-_, _*_, _%_, _^_, _<_, _≤_}
 use native.Mathlib.Nat.{mul-le-mul-left}
 use native.Mathlib.Omega.{arith}
+use lib.Bits.{bitAnd}
 use lib.Count.{trailingZeros}
 use lib.ListN.{length, getD, length-set}
 use lib.Pow.{pow-pos}
 use Rattle.rules.specs.Values.{bit}
 use Rattle.rules.proofs.Bits.{bit-out}
-use Rattle.words.proofs.Numbers.{one-shifted}
-use Rattle.tally.proofs.Marking.{lowest, word-step, word-inside, set-fits, word-marked}
+use Rattle.tally.proofs.Marking.{lowest, lowest-out, word-step, word-inside, set-fits, word-marked}
 use Rattle.tally.proofs.mark_word.Statement.{statement}
 use Rattle.tally.proofs.mark_word.Tie as tie
 
@@ -56,22 +56,18 @@ mul-numbers c = omega (arith, low (c .before .before) .1, c .before .before .bef
 slice-write-numbers : tie.Need-slice-write-numbers Inv-loop μ-loop
 slice-write-numbers c = inside (c .before .before)
 
-cast-left : tie.Need-cast-left Inv-loop μ-loop
-cast-left c = omega (arith, low (c .before .before) .1)
-
-shl-left : tie.Need-shl-left Inv-loop μ-loop
-shl-left c = omega (arith, low (c .before .before) .1)
-
 sub-left : tie.Need-sub-left Inv-loop μ-loop
-sub-left c =
-    let l = c .before .before .before .loop in
-    rw (one-shifted (trailingZeros 64 (l .left)) (low (c .before .before) .1)) (bit-out (l .left) (trailingZeros 64 (l .left)) (low (c .before .before) .0) .0)
+sub-left c = omega (arith, c .before .before .loop-test .taken)
+
+-- what is left without its lowest bit
+out : (c : tie.In-loop Inv-loop μ-loop) → bitAnd (c .before .loop .left) (c .before .loop .left - 1) ≡ c .before .loop .left - 2 ^ trailingZeros 64 (c .before .loop .left)
+out c = lowest-out 64 (c .before .loop .left) (omega (arith, c .loop-test .taken)) (c .before .loop .inv .0)
 
 loop-less : tie.Need-loop-less Inv-loop μ-loop
 loop-less c =
     let l = c .before .before .before .loop in
     let b = trailingZeros 64 (l .left) in
-    rw (one-shifted b (low (c .before .before) .1)) (omega (arith, pow-pos b, bit-out (l .left) b (low (c .before .before) .0) .0))
+    omega (arith, out (c .before .before), pow-pos b, bit-out (l .left) b (low (c .before .before) .0) .0)
 
 loop-again : tie.Need-loop-again Inv-loop μ-loop
 loop-again c =
@@ -81,7 +77,7 @@ loop-again c =
     let r = c .wrapping-add-u32 .ensures in
     let here = inside (c .before .before) in
     let fewer : l .left - 2 ^ b ≤ l .left = omega arith in
-    rw (one-shifted b (low (c .before .before) .1)) (
+    rw (out (c .before .before)) (
       omega (arith, l .inv .0),
       length-set (l .numbers) (a .base + b) (c .wrapping-add-u32 .result) ∙ l .inv .1,
       omega (arith, l .inv .2, mul-le-mul-left (2 ^ a .base) fewer),
@@ -113,8 +109,6 @@ mark-word-spec =
     wrapping-add-u32-requires
     mul-numbers
     slice-write-numbers
-    cast-left
-    shl-left
     sub-left
     loop-less
     loop-again

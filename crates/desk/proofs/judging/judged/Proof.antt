@@ -32,18 +32,21 @@ slice-aggregate-judge-unlogged-2 c = search needs
 slice-aggregate-judge-unlogged-3 : tie.Need-slice-aggregate-judge-unlogged-3
 slice-aggregate-judge-unlogged-3 c = search needs
 
+slice-aggregate-judge-unlogged-4 : tie.Need-slice-aggregate-judge-unlogged-4
+slice-aggregate-judge-unlogged-4 c = search needs
+
 judge-unlogged-requires : tie.Need-judge-unlogged-requires
 judge-unlogged-requires c κs = search needs
 
 returns : tie.Need-returns
 returns c =
-    let a = c .before .before .before .before .before .before .before .before .before .before .args in
-    let known = c .before .before .before .before .before .before .before .before .before .before .pre in
-    let put = c .before .before .before .before .before .before .before .put-falling in
+    let a = c .before .before .before .before .before .before .before .before .before .before .before .before .args in
+    let known = c .before .before .before .before .before .before .before .before .before .before .before .before .pre in
+    let put = c .before .before .before .before .before .before .before .before .before .put-falling in
     let front = falling-front (a .counts) _ (put .last .1 .0) (put .result) (put .ensures) in
-    let judged = c .before .before .judge-unlogged in
+    let judged = c .before .before .before .judge-unlogged in
     judged .ensures .said
-    ∙ desk-judged (a .kind) (a .counts) (a .table .now) _ (known .0) (known .1) (known .2) (front .1)
+    ∙ desk-judged (a .kind) (a .counts) (a .table .now) _ _ (known .0) (known .1) (known .2) (front .1) (omega (arith, known .1))
 
 pub judged-spec : {M : Type 1} → statement M
 judged-spec =
@@ -55,5 +58,6 @@ judged-spec =
     slice-aggregate-judge-unlogged
     slice-aggregate-judge-unlogged-2
     slice-aggregate-judge-unlogged-3
+    slice-aggregate-judge-unlogged-4
     judge-unlogged-requires
     returns)

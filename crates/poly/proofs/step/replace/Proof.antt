@@ -3,7 +3,7 @@ use mathlib.Core.Path.{refl}
 use Prim.Native.Nat.{_^_, _<_}
 use native.Mathlib.Omega.{arith}
 use lib.ListN.{length}
-use Rattle.poly.proofs.Woven.{front-fit, part-room, made-room, same-room, both, step-full, step-fits}
+use Rattle.poly.proofs.Woven.{front-fit, part-room, made-room, same-room, both, numbering, numbers-many, step-full, step-terms, step-fits}
 use borrow.Author.Needs.{needs}
 use Rattle.poly.proofs.step.replace.Statement.{statement}
 use Rattle.poly.proofs.step.replace.Tie as tie
@@ -14,7 +14,7 @@ use Rattle.poly.proofs.step.replacements.Reads as replacements-reads
 use Rattle.words.proofs.stretches.clear.Reads as clear-reads
 
 -- scratch has fewer words than a word counts
-lent : (c : tie.After-replacements-arg2) → length (c .before .before .before .before .args .scratch .now) < 2 ^ 64
+lent : (c : tie.After-replacements-arg2) → length (c .before .before .before .before .before .args .scratch .now) < 2 ^ 64
 lent c = omega arith
 
 add-stride : tie.Need-add-stride
@@ -40,8 +40,8 @@ part-replacements-end c = search needs
 
 replacements-requires : tie.Need-replacements-requires
 replacements-requires c κs =
-    let a = c .before .before .before .before .args in
-    (front-fit (a .store .now) (a .n) (a .w) (a .g) (a .r) (a .row .now) (a .end) (a .scratch .now) (a .limit) (c .before .before .before .before .pre), part-room (a .store .now) (a .n) (a .w) (a .g) (a .r) (a .row .now) (a .end) (a .scratch .now) (a .limit) (c .before .before .before .before .pre))
+    let a = c .before .before .before .before .before .args in
+    (front-fit (a .store .now) (a .n) (a .w) (a .g) (a .r) (a .row .now) (a .end) (a .scratch .now) (a .limit) (c .before .before .before .before .before .pre .0), part-room (a .store .now) (a .n) (a .w) (a .g) (a .r) (a .row .now) (a .end) (a .scratch .now) (a .limit) (c .before .before .before .before .before .pre .0))
 
 add-result : tie.Need-add-result
 add-result c = search needs
@@ -54,35 +54,35 @@ same-length-2 c = search needs
 
 returns : tie.Need-returns
 returns c =
-    let a = c .before .before .before .before .before .before .before .before .args in
+    let a = c .before .before .before .before .before .before .before .before .before .args in
     let m = c .before .before .before .replacements in
-    step-full (a .store .now) (a .n) (a .w) (a .g) (a .r) (a .row .now) (a .end) (a .scratch .now) (a .limit) (c .before .before .before .before .before .before .before .before .pre) (m .result) (m .last .1 .1 .1 .1 .1 .1 .0) _ (m .kept .1 .1 .1 .1 .1 .1 .0) refl (m .ensures .0) (m .ensures .1) (m .ensures .2) (c .if1 .taken)
+    (step-full (a .store .now) (a .n) (a .w) (a .g) (a .r) (a .row .now) (a .end) (a .scratch .now) (a .limit) (c .before .before .before .before .before .before .before .before .before .pre .0) (m .result) (m .last .1 .1 .1 .1 .1 .1 .0) _ (m .kept .1 .1 .1 .1 .1 .1 .0) refl (m .ensures .0) (m .ensures .1) (m .ensures .2) (c .if1 .taken), numbers-many (a .store .now) (a .n) (a .w) (a .g) (a .r) (a .row .now) (a .end) (a .scratch .now) (a .limit) (c .before .before .before .before .before .before .before .before .before .pre .0) (m .result) (m .last .1 .1 .1 .1 .1 .1 .0) _ (m .kept .1 .1 .1 .1 .1 .1 .0) refl (m .ensures .0) (m .ensures .1) (m .ensures .2) (a .numbers .now) (c .if1 .taken))
 
 put-together-requires : tie.Need-put-together-requires
 put-together-requires c κs =
-    let a = c .before .before .before .before .before .before .before .before .before .before .args in
-    let m = c .before .before .before .before .before .replacements in
-    both (a .store .now) (a .n) (a .w) (a .g) (a .r) (a .row .now) (a .end) (a .scratch .now) (a .limit) (c .before .before .before .before .before .before .before .before .before .before .pre) (m .result) (m .last .1 .1 .1 .1 .1 .1 .0) _ (m .kept .1 .1 .1 .1 .1 .1 .0) refl (m .ensures .0) (m .ensures .1) (m .ensures .2) (c .before .before .if1 .left)
+    let a = c .before .before .before .before .before .before .before .before .before .before .before .before .args in
+    let m = c .before .before .before .before .before .before .replacements in
+    (both (a .store .now) (a .n) (a .w) (a .g) (a .r) (a .row .now) (a .end) (a .scratch .now) (a .limit) (c .before .before .before .before .before .before .before .before .before .before .before .before .pre .0) (m .result) (m .last .1 .1 .1 .1 .1 .1 .0) _ (m .kept .1 .1 .1 .1 .1 .1 .0) refl (m .ensures .0) (m .ensures .1) (m .ensures .2) (c .before .before .before .if1 .left), numbering (a .store .now) (a .n) (a .w) (a .g) (a .r) (a .row .now) (a .end) (a .scratch .now) (a .limit) (c .before .before .before .before .before .before .before .before .before .before .before .before .pre .0) (m .result) (m .last .1 .1 .1 .1 .1 .1 .0) _ (m .kept .1 .1 .1 .1 .1 .1 .0) refl (m .ensures .0) (m .ensures .1) (m .ensures .2) (c .before .before .before .before .before .before .before .before .before .before .before .before .pre .1) (c .before .before .before .if1 .left))
 
 mul-clear : tie.Need-mul-clear
 mul-clear c =
-    let a = c .before .before .before .before .before .before .before .before .before .before .before .before .before .before .before .before .args in
-    let m = c .before .before .before .before .before .before .before .before .before .before .before .replacements in
-    let q = made-room (a .store .now) (a .n) (a .w) (a .g) (a .r) (a .row .now) (a .end) (a .scratch .now) (a .limit) (c .before .before .before .before .before .before .before .before .before .before .before .before .before .before .before .before .pre) (m .result) (m .last .1 .1 .1 .1 .1 .1 .0) _ (m .kept .1 .1 .1 .1 .1 .1 .0) refl (m .ensures .0) (m .ensures .1) (m .ensures .2) (c .before .before .before .before .before .before .before .before .if1 .left) in
-    omega (arith, q, lent (c .before .before .before .before .before .before .before .before .before .before .before .before))
+    let a = c .before .before .before .before .before .before .before .before .before .before .before .before .before .before .before .before .before .before .before .before .args in
+    let m = c .before .before .before .before .before .before .before .before .before .before .before .before .before .before .replacements in
+    let q = made-room (a .store .now) (a .n) (a .w) (a .g) (a .r) (a .row .now) (a .end) (a .scratch .now) (a .limit) (c .before .before .before .before .before .before .before .before .before .before .before .before .before .before .before .before .before .before .before .before .pre .0) (m .result) (m .last .1 .1 .1 .1 .1 .1 .0) _ (m .kept .1 .1 .1 .1 .1 .1 .0) refl (m .ensures .0) (m .ensures .1) (m .ensures .2) (c .before .before .before .before .before .before .before .before .before .before .before .if1 .left) in
+    omega (arith, q, lent (c .before .before .before .before .before .before .before .before .before .before .before .before .before .before .before))
 
 add-clear : tie.Need-add-clear
 add-clear c =
-    let a = c .before .before .before .before .before .before .before .before .before .before .before .before .before .before .before .before .args in
-    let m = c .before .before .before .before .before .before .before .before .before .before .before .replacements in
-    let q = made-room (a .store .now) (a .n) (a .w) (a .g) (a .r) (a .row .now) (a .end) (a .scratch .now) (a .limit) (c .before .before .before .before .before .before .before .before .before .before .before .before .before .before .before .before .pre) (m .result) (m .last .1 .1 .1 .1 .1 .1 .0) _ (m .kept .1 .1 .1 .1 .1 .1 .0) refl (m .ensures .0) (m .ensures .1) (m .ensures .2) (c .before .before .before .before .before .before .before .before .if1 .left) in
-    omega (arith, q, lent (c .before .before .before .before .before .before .before .before .before .before .before .before))
+    let a = c .before .before .before .before .before .before .before .before .before .before .before .before .before .before .before .before .before .before .before .before .args in
+    let m = c .before .before .before .before .before .before .before .before .before .before .before .before .before .before .replacements in
+    let q = made-room (a .store .now) (a .n) (a .w) (a .g) (a .r) (a .row .now) (a .end) (a .scratch .now) (a .limit) (c .before .before .before .before .before .before .before .before .before .before .before .before .before .before .before .before .before .before .before .before .pre .0) (m .result) (m .last .1 .1 .1 .1 .1 .1 .0) _ (m .kept .1 .1 .1 .1 .1 .1 .0) refl (m .ensures .0) (m .ensures .1) (m .ensures .2) (c .before .before .before .before .before .before .before .before .before .before .before .if1 .left) in
+    omega (arith, q, lent (c .before .before .before .before .before .before .before .before .before .before .before .before .before .before .before))
 
 clear-requires : tie.Need-clear-requires
 clear-requires c κs =
-    let a = c .before .before .before .before .before .before .before .before .before .before .before .before .before .before .before .before .args in
-    let m = c .before .before .before .before .before .before .before .before .before .before .before .replacements in
-    (omega arith, rw (c .before .before .before .before .before .put-together .kept .1 .1 .0, same-room (a .store .now) (a .n) (a .w) (a .g) (a .r) (a .row .now) (a .end) (a .scratch .now) (a .limit) (c .before .before .before .before .before .before .before .before .before .before .before .before .before .before .before .before .pre) (m .result) (m .last .1 .1 .1 .1 .1 .1 .0) _ (m .kept .1 .1 .1 .1 .1 .1 .0) refl (m .ensures .0) (m .ensures .1) (m .ensures .2)) (made-room (a .store .now) (a .n) (a .w) (a .g) (a .r) (a .row .now) (a .end) (a .scratch .now) (a .limit) (c .before .before .before .before .before .before .before .before .before .before .before .before .before .before .before .before .pre) (m .result) (m .last .1 .1 .1 .1 .1 .1 .0) _ (m .kept .1 .1 .1 .1 .1 .1 .0) refl (m .ensures .0) (m .ensures .1) (m .ensures .2) (c .before .before .before .before .before .before .before .before .if1 .left)))
+    let a = c .before .before .before .before .before .before .before .before .before .before .before .before .before .before .before .before .before .before .before .before .args in
+    let m = c .before .before .before .before .before .before .before .before .before .before .before .before .before .before .replacements in
+    (omega arith, rw (c .before .before .before .before .before .before .before .put-together .kept .1 .1 .0, same-room (a .store .now) (a .n) (a .w) (a .g) (a .r) (a .row .now) (a .end) (a .scratch .now) (a .limit) (c .before .before .before .before .before .before .before .before .before .before .before .before .before .before .before .before .before .before .before .before .pre .0) (m .result) (m .last .1 .1 .1 .1 .1 .1 .0) _ (m .kept .1 .1 .1 .1 .1 .1 .0) refl (m .ensures .0) (m .ensures .1) (m .ensures .2)) (made-room (a .store .now) (a .n) (a .w) (a .g) (a .r) (a .row .now) (a .end) (a .scratch .now) (a .limit) (c .before .before .before .before .before .before .before .before .before .before .before .before .before .before .before .before .before .before .before .before .pre .0) (m .result) (m .last .1 .1 .1 .1 .1 .1 .0) _ (m .kept .1 .1 .1 .1 .1 .1 .0) refl (m .ensures .0) (m .ensures .1) (m .ensures .2) (c .before .before .before .before .before .before .before .before .before .before .before .if1 .left)))
 
 same-length-3 : tie.Need-same-length-3
 same-length-3 c = search needs
@@ -90,12 +90,15 @@ same-length-3 c = search needs
 same-length-4 : tie.Need-same-length-4
 same-length-4 c = search needs
 
+same-length-5 : tie.Need-same-length-5
+same-length-5 c = search needs
+
 returns-2 : tie.Need-returns-2
 returns-2 c =
-    let a = c .before .before .before .before .before .before .before .before .before .before .before .before .before .before .before .before .before .before .before .args in
-    let m = c .before .before .before .before .before .before .before .before .before .before .before .before .before .before .replacements in
-    let t = c .before .before .before .before .before .before .before .before .put-together in
-    step-fits (a .store .now) (a .n) (a .w) (a .g) (a .r) (a .row .now) (a .end) (a .scratch .now) (a .limit) (c .before .before .before .before .before .before .before .before .before .before .before .before .before .before .before .before .before .before .before .pre) (m .result) (m .last .1 .1 .1 .1 .1 .1 .0) _ (m .kept .1 .1 .1 .1 .1 .1 .0) refl (m .ensures .0) (m .ensures .1) (m .ensures .2) (c .before .before .before .before .before .before .before .before .before .before .before .if1 .left) (t .result) (t .last .0) (t .last .1 .1 .0) (c .before .before .clear .last .0) (t .ensures) (c .before .before .clear .ensures)
+    let a = c .before .before .before .before .before .before .before .before .before .before .before .before .before .before .before .before .before .before .before .before .before .before .before .args in
+    let m = c .before .before .before .before .before .before .before .before .before .before .before .before .before .before .before .before .before .replacements in
+    let t = c .before .before .before .before .before .before .before .before .before .before .put-together in
+    (step-fits (a .store .now) (a .n) (a .w) (a .g) (a .r) (a .row .now) (a .end) (a .scratch .now) (a .limit) (c .before .before .before .before .before .before .before .before .before .before .before .before .before .before .before .before .before .before .before .before .before .before .before .pre .0) (m .result) (m .last .1 .1 .1 .1 .1 .1 .0) _ (m .kept .1 .1 .1 .1 .1 .1 .0) refl (m .ensures .0) (m .ensures .1) (m .ensures .2) (c .before .before .before .before .before .before .before .before .before .before .before .before .before .before .if1 .left) (t .result) (t .last .0) (t .last .1 .1 .0) (c .before .before .clear .last .0) (t .ensures .0) (c .before .before .clear .ensures), rw (step-terms (a .store .now) (a .n) (a .w) (a .g) (a .r) (a .row .now) (a .end) (a .scratch .now) (a .limit) (c .before .before .before .before .before .before .before .before .before .before .before .before .before .before .before .before .before .before .before .before .before .before .before .pre .0) (m .result) (m .last .1 .1 .1 .1 .1 .1 .0) _ (m .kept .1 .1 .1 .1 .1 .1 .0) refl (m .ensures .0) (m .ensures .1) (m .ensures .2) (c .before .before .before .before .before .before .before .before .before .before .before .before .before .before .if1 .left)) at (t .ensures .1))
 
 pub replace-spec : {M : Type 1} → statement M
 replace-spec =
@@ -119,4 +122,5 @@ replace-spec =
     clear-requires
     same-length-3
     same-length-4
+    same-length-5
     returns-2)

@@ -2,7 +2,7 @@
 use mathlib.Core.Path.{refl}
 use lib.ListN.{length}
 use Rattle.words.proofs.Stored.{stride-le}
-use Rattle.poly.proofs.Settled.{stepped-same, used-asks, to-replace}
+use Rattle.poly.proofs.Settled.{numbers-same, stepped-same, used-asks, to-replace}
 use borrow.Author.Needs.{needs}
 use Rattle.poly.proofs.step.step.Statement.{statement}
 use Rattle.poly.proofs.step.step.Tie as tie
@@ -15,8 +15,8 @@ use Rattle.weave.proofs.seeking.words_used.Reads as words-used-reads
 
 last-holding-requires : tie.Need-last-holding-requires
 last-holding-requires c κs =
-    let a = c .before .before .before .args in
-    let p = c .before .before .before .pre in
+    let a = c .before .before .before .before .args in
+    let p = c .before .before .before .before .pre .0 in
     (stride-le (a .held) (a .limit) (a .w) (length (a .store .now)) (p .held-most) (p .store-room), p .narrow, p .v-in, p .falls)
 
 same-length : tie.Need-same-length
@@ -24,31 +24,31 @@ same-length c = search needs
 
 returns : tie.Need-returns
 returns c =
-    let a = c .before .before .before .before .before .args in
-    stepped-same (a .w) (a .l) (a .v) (a .r) (a .limit) (a .held) (a .store .now) (a .scratch .now) (c .before .before .before .before .before .pre) (c .before .last-holding .result) (c .before .last-holding .ensures) (c .if1 .taken)
+    let a = c .before .before .before .before .before .before .args in
+    (stepped-same (a .w) (a .l) (a .v) (a .r) (a .limit) (a .held) (a .store .now) (a .scratch .now) (c .before .before .before .before .before .before .pre .0) (c .before .last-holding .result) (c .before .last-holding .ensures) (c .if1 .taken), numbers-same (a .w) (a .l) (a .v) (a .r) (a .limit) (a .held) (a .store .now) (a .scratch .now) (a .numbers .now) (c .before .before .before .before .before .before .pre .0) (c .before .last-holding .result) (c .before .last-holding .ensures) (c .if1 .taken))
 
 slice-aggregate-apart : tie.Need-slice-aggregate-apart
 slice-aggregate-apart c = search needs
 
 apart-requires : tie.Need-apart-requires
-apart-requires c κs = (refl, c .before .before .before .before .before .before .pre .byte)
+apart-requires c κs = (refl, c .before .before .before .before .before .before .before .pre .0 .byte)
 
 words-used-requires : tie.Need-words-used-requires
 words-used-requires c κs =
-    let a = c .before .before .before .before .before .before .before .before .before .args in
+    let a = c .before .before .before .before .before .before .before .before .before .before .args in
     let o = c .before .before .before .before .before .last-holding in
-    used-asks (a .w) (a .l) (a .v) (a .r) (a .limit) (a .held) (o .result) (a .store .now) (a .scratch .now) (c .before .before .before .before .before .before .before .before .before .pre) (o .ensures) (c .before .before .before .before .if1 .left)
+    used-asks (a .w) (a .l) (a .v) (a .r) (a .limit) (a .held) (o .result) (a .store .now) (a .scratch .now) (c .before .before .before .before .before .before .before .before .before .before .pre .0) (o .ensures) (c .before .before .before .before .if1 .left)
 
 slice-aggregate-replace : tie.Need-slice-aggregate-replace
 slice-aggregate-replace c = search needs
 
 replace-requires : tie.Need-replace-requires
 replace-requires c κs =
-    let a = c .before .before .before .before .before .before .before .before .before .before .before .before .before .args in
-    let o = c .before .before .before .before .before .before .before .before .before .last-holding in
-    let q = c .before .before .before .before .before .before .apart in
-    let u = c .before .before .before .words-used in
-    to-replace (a .w) (a .l) (a .v) (a .r) (a .limit) (a .held) (o .result) (a .store .now) (a .scratch .now) (c .before .before .before .before .before .before .before .before .before .before .before .before .before .pre) (o .ensures) (c .before .before .before .before .before .before .before .before .if1 .left) (q .result) (q .last .1 .0) (q .ensures) (q .kept .1 .0) (u .result) (u .ensures)
+    let a = c .before .before .before .before .before .before .before .before .before .before .before .before .before .before .before .args in
+    let o = c .before .before .before .before .before .before .before .before .before .before .last-holding in
+    let q = c .before .before .before .before .before .before .before .apart in
+    let u = c .before .before .before .before .words-used in
+    (to-replace (a .w) (a .l) (a .v) (a .r) (a .limit) (a .held) (o .result) (a .store .now) (a .scratch .now) (c .before .before .before .before .before .before .before .before .before .before .before .before .before .before .before .pre .0) (o .ensures) (c .before .before .before .before .before .before .before .before .before .if1 .left) (q .result) (q .last .1 .0) (q .ensures) (q .kept .1 .0) (u .result) (u .ensures), c .before .before .before .before .before .before .before .before .before .before .before .before .before .before .before .pre .1)
 
 same-length-2 : tie.Need-same-length-2
 same-length-2 c = search needs
@@ -56,8 +56,11 @@ same-length-2 c = search needs
 same-length-3 : tie.Need-same-length-3
 same-length-3 c = search needs
 
+same-length-4 : tie.Need-same-length-4
+same-length-4 c = search needs
+
 returns-2 : tie.Need-returns-2
-returns-2 c = search needs
+returns-2 c = c .before .before .before .before .before .before .replace .ensures
 
 pub step-spec : {M : Type 1} → statement M
 step-spec =
@@ -73,4 +76,5 @@ step-spec =
     replace-requires
     same-length-2
     same-length-3
+    same-length-4
     returns-2)

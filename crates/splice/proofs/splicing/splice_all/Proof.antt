@@ -20,10 +20,10 @@ add-clear c = search needs
 
 mul-clear : tie.Need-mul-clear
 mul-clear c =
-    let a = c .before .before .before .before .before .before .before .before .before .before .args in
-    let p = c .before .before .before .before .before .before .before .before .before .before .pre in
-    let s = c .before .before .before .before .before .before .splice in
-    omega (arith, held-room (a .z) (a .store .now) (a .scratch .now) (s .result) (s .last .0) (p .0) (p .1) (s .ensures) (s .kept .0))
+    let a = c .before .before .before .before .before .before .before .before .before .before .before .before .before .before .args in
+    let p = c .before .before .before .before .before .before .before .before .before .before .before .before .before .before .pre in
+    let s = c .before .before .before .before .before .before .before .before .splice in
+    omega (arith, held-room (a .z) (a .store .now) (a .scratch .now) (s .result) (s .last .0) (p .0) (p .1) (s .ensures .0) (s .kept .0))
 
 add-clear-2 : tie.Need-add-clear-2
 add-clear-2 c = search needs
@@ -33,30 +33,36 @@ mul-clear-2 c = search needs
 
 clear-requires : tie.Need-clear-requires
 clear-requires c κs =
-    let a = c .before .before .before .before .before .before .before .before .before .before .before .before .args in
-    let p = c .before .before .before .before .before .before .before .before .before .before .before .before .pre in
-    let s = c .before .before .before .before .before .before .before .before .splice in
+    let a = c .before .before .before .before .before .before .before .before .before .before .before .before .before .before .before .before .args in
+    let p = c .before .before .before .before .before .before .before .before .before .before .before .before .before .before .before .before .pre in
+    let s = c .before .before .before .before .before .before .before .before .before .before .splice in
     (mul-le-mul-right (a .z .w + 1) (omega (arith, c .before .before .before .before .if1 .taken)), rw (s .kept .0) (p .0 .room))
 
 same-length : tie.Need-same-length
 same-length c = search needs
 
-returns : tie.Need-returns
-returns c =
-    let a = c .before .before .before .before .before .before .before .before .before .before .before .before .before .before .before .args in
-    let p = c .before .before .before .before .before .before .before .before .before .before .before .before .before .before .before .pre in
-    let s = c .before .before .before .before .before .before .before .before .before .before .before .splice in
-    (s .ensures .counted, omega (arith, s .ensures .most, p .0 .fits), finished-fewer (a .z) (a .store .now) (a .scratch .now) (s .result) (s .last .0) (p .0) (p .1) (s .ensures) (s .kept .0) (c .before .before .clear .last .0) (c .before .before .before .before .before .before .before .if1 .taken) (c .before .before .clear .kept .0 ∙ s .kept .0) (λ i. c .slice-known3 .given i .fits) (c .before .before .clear .ensures))
-
 same-length-2 : tie.Need-same-length-2
 same-length-2 c = search needs
 
+returns : tie.Need-returns
+returns c =
+    let a = c .before .before .before .before .before .before .before .before .before .before .before .before .before .before .before .before .before .before .before .args in
+    let p = c .before .before .before .before .before .before .before .before .before .before .before .before .before .before .before .before .before .before .before .pre in
+    let s = c .before .before .before .before .before .before .before .before .before .before .before .before .before .splice in
+    (s .ensures .0 .counted, omega (arith, s .ensures .0 .most, p .0 .fits), finished-fewer (a .z) (a .store .now) (a .scratch .now) (s .result) (s .last .0) (p .0) (p .1) (s .ensures .0) (s .kept .0) (c .before .before .clear .last .0) (c .before .before .before .before .before .before .before .if1 .taken) (c .before .before .clear .kept .0 ∙ s .kept .0) (λ i. c .slice-known5 .given i .fits) (c .before .before .clear .ensures), s .ensures .1)
+
+same-length-3 : tie.Need-same-length-3
+same-length-3 c = search needs
+
+same-length-4 : tie.Need-same-length-4
+same-length-4 c = search needs
+
 returns-2 : tie.Need-returns-2
 returns-2 c =
-    let a = c .before .before .before .before .before .before .before .before .args in
-    let p = c .before .before .before .before .before .before .before .before .pre in
-    let s = c .before .before .before .before .splice in
-    (s .ensures .counted, omega (arith, s .ensures .most, p .0 .fits), finished (a .z) (a .store .now) (a .scratch .now) (s .result) (s .last .0) (p .0) (p .1) (s .ensures) (s .kept .0) (c .if1 .left) (λ i. c .before .before .slice-known2 .given i .fits))
+    let a = c .before .before .before .before .before .before .before .before .before .before .before .before .args in
+    let p = c .before .before .before .before .before .before .before .before .before .before .before .before .pre in
+    let s = c .before .before .before .before .before .before .splice in
+    (s .ensures .0 .counted, omega (arith, s .ensures .0 .most, p .0 .fits), finished (a .z) (a .store .now) (a .scratch .now) (s .result) (s .last .0) (p .0) (p .1) (s .ensures .0) (s .kept .0) (c .if1 .left) (λ i. c .before .before .before .before .slice-known3 .given i .fits), s .ensures .1)
 
 pub splice-all-spec : {M : Type 1} → statement M
 splice-all-spec =
@@ -69,6 +75,8 @@ splice-all-spec =
     mul-clear-2
     clear-requires
     same-length
-    returns
     same-length-2
+    returns
+    same-length-3
+    same-length-4
     returns-2)

@@ -1,20 +1,20 @@
 -- By whether the coefficient is 0.
 use mathlib.Core.Path.{_≡_, refl}
 use Prim.Native.Nat.{ℕ, zero, suc}
-use Rattle.splice.specs.Splicing.{size}
+use Rattle.rules.specs.Occurrences.{present}
 use Rattle.splice.proofs.spots.size.Statement.{statement}
 use Rattle.splice.proofs.spots.size.Tie as tie
 use Rattle.splice.proofs.spots.size.Reads as reads
 use Rattle.splice.proofs.spots.size.Lts as lts
 
 -- one that is not 0 makes a term
-some : (c : ℕ) → (c ≡ 0 → ⊥) → 1 ≡ size c
-unfolding size
+some : (c : ℕ) → (c ≡ 0 → ⊥) → 1 ≡ present c
+unfolding present
 some zero n = absurd (n refl)
 some (suc c) n = refl
 
 returns : tie.Need-returns
-unfolding size
+unfolding present
 returns c = rw (c .if1 .taken)
 
 returns-2 : tie.Need-returns-2

@@ -137,7 +137,7 @@ module _ {c : Counts} {limit count v r : ℕ} {q : Polynomial} {store scratch oc
             terms = rw e (terms ∙ (rw e at (s .counted)));
             stored = s .stored;
             cleared = s .cleared;
-            numbers = numbers;
+            numbers = rw e (rw e at numbers);
           }
       go false e = let n : r ≡ limit + 1 = rw e at (s .counted) in absurd (omega arith)
 
@@ -156,7 +156,7 @@ module _ {c : Counts} {limit count v r : ℕ} {q : Polynomial} {store scratch oc
             terms = rw e terms;
             stored = s .stored;
             cleared = s .cleared;
-            numbers = numbers;
+            numbers = rw e (rw e at numbers);
           }
 
 -- a run goes on in words that are as many as were lent, with the numbers of p in front of those lent for them

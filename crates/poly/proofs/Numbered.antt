@@ -20,36 +20,22 @@ use Rattle.weave.proofs.Falling.{below-front}
 use Rattle.weave.proofs.Fronts.{under-append}
 use Rattle.weave.proofs.Without.{without-below}
 use Rattle.tally.specs.Marks.{Numbered, Counting, Moved, Renumbered}
-use Rattle.tally.proofs.Marking.{counting-front, occurring-rest}
+use Rattle.tally.proofs.Marking.{numbered-front, counting-front, occurring-rest}
 use Rattle.tally.proofs.Moving.{moved-add, moved-same}
 use Rattle.tally.proofs.Numbering.{numbered-gather, numbered-append}
 use Rattle.poly.specs.Stepping.{Both, Numbering}
 use Rattle.poly.proofs.Settled.{left-in, counted, front-in, more}
 
--- the terms that do not hold v
-numbered-without : (lent v : ℕ) (p : Polynomial) → Numbered lent p → Numbered lent (without v p)
-unfolding without
-numbered-without lent v [] h = tt
-numbered-without lent v (t ∷ p) h = go (eqb (bit (t .1) v) 1) (numbered-without lent v p (h .1))
+-- the terms that hold v, and those that do not
+pub numbered-parts : (lent v : ℕ) (p : Polynomial) → Numbered lent p → Numbered lent (holding v p) × Numbered lent (without v p)
+unfolding holding without
+numbered-parts lent v [] h = (tt, tt)
+numbered-parts lent v (t ∷ p) h = go (eqb (bit (t .1) v) 1) (numbered-parts lent v p (h .1))
   where
-    go : (b : Bool) → Numbered lent (without v p) → Numbered lent (cond b (without v p) (t ∷ without v p))
-    go true k = k
-    go false k = (h .0, k)
-
--- and those that do
-pub numbered-holding : (lent v : ℕ) (p : Polynomial) → Numbered lent p → Numbered lent (holding v p)
-unfolding holding
-numbered-holding lent v [] h = tt
-numbered-holding lent v (t ∷ p) h = go (eqb (bit (t .1) v) 1) (numbered-holding lent v p (h .1))
-  where
-    go : (b : Bool) → Numbered lent (holding v p) → Numbered lent (cond b (t ∷ holding v p) (holding v p))
-    go true k = (h .0, k)
-    go false k = k
-
--- the first of two lists
-numbered-front : (lent : ℕ) (p q : Polynomial) → Numbered lent (p ++ q) → Numbered lent p
-numbered-front lent [] q h = tt
-numbered-front lent (t ∷ p) q h = (h .0, numbered-front lent p q (h .1))
+    go : (b : Bool) → Numbered lent (holding v p) × Numbered lent (without v p)
+        → Numbered lent (cond b (t ∷ holding v p) (holding v p)) × Numbered lent (cond b (without v p) (t ∷ without v p))
+    go true k = ((h .0, k .0), k .1)
+    go false k = (k .0, (h .0, k .1))
 
 -- the terms of the store can be counted
 pub counting-old : (z : Sizes) (store scratch : List ℕ) {lent : ℕ} → Both z store scratch → Numbering z store scratch lent → Counting store (z .n) (z .w) (z .k) lent
@@ -81,7 +67,7 @@ module _ (z : Sizes) (r : Parts) (store scratch made : List ℕ) {lent : ℕ} (b
   both-numbered : Numbered lent both
   both-numbered =
       numbered-gather lent (2 ^ z .l) (without (z .v) (old-terms z store) ++ new-terms z scratch)
-      (numbered-append lent (without (z .v) (old-terms z store)) (new-terms z scratch) (numbered-without lent (z .v) (old-terms z store) (named .old)) (named .new))
+      (numbered-append lent (without (z .v) (old-terms z store)) (new-terms z scratch) (numbered-parts lent (z .v) (old-terms z store) (named .old) .1) (named .new))
 
   module _ (g : Joined (z .limit) both (old-terms z store) r (decoded (z .w) (r .out) made)) (t : Kept (z .w) (z .limit) (r .out) scratch made) (lm : length made ≡ length scratch) where
     -- so what the weave wrote can be counted

@@ -27,7 +27,7 @@ use Rattle.tally.proofs.Numbering.{numbered-gather, numbered-replaced}
 use Rattle.poly.specs.Stepping.{Fit, Prepared, Both, Numbering, Numberable, Together, Stepped}
 use Rattle.merge.specs.declared.streams.Gate.{Gate}
 use Rattle.poly.proofs.Parts.{holding-front, step-parts, step-more}
-use Rattle.poly.proofs.Numbered.{numbered-holding}
+use Rattle.poly.proofs.Numbered.{numbered-parts}
 use Rattle.poly.proofs.Restored.{zeros-again, written, part-there, front-zeros, restored}
 
 module _ (store : List ℕ) (n w : ℕ) (g : Gate) (r : Record) (row : List ℤ) (end : ℕ) (scratch : List ℕ) (limit : ℕ) (h : Prepared store n w g r row end scratch limit) where
@@ -138,7 +138,7 @@ module _ (store : List ℕ) (n w : ℕ) (g : Gate) (r : Record) (row : List ℤ)
           old = named .numbered;
           new = rw (there, gs .fits l, same)
               (numbered-gather lent (2 ^ g .l) (all-replaced (2 ^ g .l) (g .v) r (holding (g .v) (decoded w n store)))
-              (numbered-replaced lent (2 ^ g .l) (g .v) r (holding (g .v) (decoded w n store)) (named .v-in) (named .low) (numbered-holding lent (g .v) (decoded w n store) (named .numbered))));
+              (numbered-replaced lent (2 ^ g .l) (g .v) r (holding (g .v) (decoded w n store)) (named .v-in) (named .low) (numbered-parts lent (g .v) (decoded w n store) (named .numbered) .0)));
         }
 
     -- too many were made: so are those of the step

@@ -10,6 +10,7 @@ ghost use Rattle.words.specs.Numbers.{num, words-at};
 ghost use Rattle.weave.specs.Weaving.{without, old-terms, new-terms};
 ghost use Rattle.tally.specs.Marks.{Renumbered};
 ghost use Rattle.poly.specs.Stepping.{Both, Numbering, Together, in-place};
+use tally::ONE_AWAY;
 use tally::mark_all;
 use tally::mark_difference;
 use weave::weaving::Sizes;
@@ -113,7 +114,7 @@ pub fn put_together(store: &mut [u64], z: Sizes, scratch: &mut [u64], numbers: &
         × Renumbered (z .limit) (old-terms z (now (store .entry))) (gather (2 ^ z .l) (without (z .v) (old-terms z (now (store .entry))) ++ new-terms z (now (scratch .entry)))) (now (numbers .entry)) (now (numbers .exit)) ⌝ }
 {
     if goes_in_place(store, z) {
-        mark_all(store, z.end, z.w, z.k, 4294967295, numbers);
+        mark_all(store, z.end, z.w, z.k, ONE_AWAY, numbers);
         return splice::splicing::splice_all(store, z, scratch, numbers);
     }
     woven(store, z, scratch, numbers)

@@ -226,10 +226,9 @@ numbered-drop lent zero p h = h
 numbered-drop lent (suc i) [] h = tt
 numbered-drop lent (suc i) (t ∷ p) h = numbered-drop lent i p (h .1)
 
-numbered-take : (lent i : ℕ) (p : Polynomial) → Numbered lent p → Numbered lent (take i p)
-numbered-take lent zero p h = tt
-numbered-take lent (suc i) [] h = tt
-numbered-take lent (suc i) (t ∷ p) h = (h .0, numbered-take lent i p (h .1))
+pub numbered-front : (lent : ℕ) (p q : Polynomial) → Numbered lent (p ++ q) → Numbered lent p
+numbered-front lent [] q h = tt
+numbered-front lent (t ∷ p) q h = (h .0, numbered-front lent p q (h .1))
 
 -- all that is behind the first words
 pub rest-all : (words : List ℕ) (i : ℕ) → take (length words - i) (drop i words) ≡ drop i words
@@ -250,7 +249,7 @@ module _ {store : List ℕ} {n w k lent : ℕ} (c : Counting store n w k lent) (
         short = c .short;
         some = c .some;
         falls = rw front (below-front (2 ^ (64 * k)) (take from (decoded w n store)) (drop from (decoded w n store)) (rw (take-append-drop from (decoded w n store)) (c .falls)));
-        numbered = rw front (numbered-take lent from (decoded w n store) (c .numbered));
+        numbered = rw front (numbered-front lent (take from (decoded w n store)) (drop from (decoded w n store)) (rw (take-append-drop from (decoded w n store)) (c .numbered)));
       }
 
   -- and so are they

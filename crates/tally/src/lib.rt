@@ -11,6 +11,9 @@ ghost use Rattle.words.specs.Numbers.{num, words-at};
 ghost use Rattle.words.specs.Stored.{decoded};
 ghost use Rattle.tally.specs.Marks.{Counting, Marked, Moved, times-counts};
 
+// Added to a number, it takes one away: 2^32 - 1.
+pub const ONE_AWAY: u32 = 4294967295;
+
 // Adds `by` at base + b for every bit b of x.
 fn mark_word(x: u64, base: usize, by: u32, numbers: &mut [u32])
     requires { ⌜ (base ≤ 960) × (2 ^ base * x < 2 ^ length (now numbers)) ⌝ }
@@ -37,7 +40,7 @@ fn mark_set(words: &[u64], at: usize, k: usize, by: u32, numbers: &mut [u32])
 }
 
 // Adds `by` at every variable of the term at word t, whose set uses k words, and at 0.
-pub fn mark(words: &[u64], t: usize, k: usize, by: u32, numbers: &mut [u32])
+fn mark(words: &[u64], t: usize, k: usize, by: u32, numbers: &mut [u32])
     requires { ⌜ (t + (k + 1) ≤ length (now words)) × (k ≤ 16) × (0 < length (now numbers))
         × (num (words-at (now words) (t + 1) k) < 2 ^ length (now numbers)) × (bit (num (words-at (now words) (t + 1) k)) 0 ≡ 0) ⌝ }
     ensures { λ r. ⌜ Marked by (counts-at (num (words-at (now (words .entry)) (t + 1) k))) (now (numbers .entry)) (now (numbers .exit)) ⌝ }
@@ -91,7 +94,7 @@ pub fn mark_change(words: &[u64], t: usize, k: usize, gone: usize, come: usize, 
         mark(words, t, k, 1, numbers);
         return;
     }
-    mark(words, t, k, 4294967295, numbers);
+    mark(words, t, k, ONE_AWAY, numbers);
 }
 
 // How many terms of two lists were passed.
@@ -100,8 +103,8 @@ struct Passed {
     after: usize,
 }
 
-// The numbers of the terms before become those of the terms after, as far as there are both. A set in both lists changes none: it is passed
-// over. Both fall, so that few are met apart from their like.
+// The numbers of the terms before become those of the terms after, until one list is at its end. A set in both changes none: it is passed
+// over. Both lists fall, so it is come to in both at once; that the numbers are right does not hang on it.
 fn pass(
     before: &[u64],
     n: usize,
@@ -124,7 +127,7 @@ fn pass(
                 j += 1;
             }
             Order::More => {
-                mark(before, i * stride, k, 4294967295, numbers);
+                mark(before, i * stride, k, ONE_AWAY, numbers);
                 i += 1;
             }
             Order::Less => {
@@ -161,6 +164,6 @@ pub fn mark_difference(
     ensures { λ r. ⌜ Moved (occurring (decoded w n (now (before .entry)))) (occurring (decoded w m (now (after .entry)))) (now (numbers .entry)) (now (numbers .exit)) ⌝ }
 {
     let p = pass(before, n, after, m, w, k, numbers);
-    mark_rest(before, p.before, n, w, k, 4294967295, numbers);
+    mark_rest(before, p.before, n, w, k, ONE_AWAY, numbers);
     mark_rest(after, p.after, m, w, k, 1, numbers);
 }

@@ -262,7 +262,9 @@ module _ (t : ℕ) where
       let r = c .before .before .before .before .before .before .before .before .before .before .before .before .before .before .before .before .before .before .before .before .before .before .place in
       let asks = asks-count (a .z) (a .store .now) (a .scratch .now) (a .first) (a .used) (a .to) p l in
       let long = c .before .before .before .before .before .before .before .before .before .before .before .before .before .splice .ensures .1 .long in
-      (parted (a .z) (a .store .now) (a .scratch .now) (a .first) (a .used) (a .to) p l (r .result) (r .ensures) .once, rw (c .before .before .before .before .before .before .before .before .before .before .before .before .before .before .before .before .before .before .before .before .before .size .ensures) (present-most (r .result .c)), asks .0, asks .1, rw long (asks .2), rw long (asks .3), asks .4)
+      let met = parted (a .z) (a .store .now) (a .scratch .now) (a .first) (a .used) (a .to) p l (r .result) (r .ensures) .once in
+      let count = present-most (r .result .c) in
+      (omega (arith, met, count, c .before .before .before .before .before .before .before .before .before .before .before .before .before .before .before .before .before .before .before .before .before .size .ensures), omega (arith, met, count, c .before .before .before .before .before .before .before .before .before .before .before .before .before .before .before .before .before .before .before .before .before .size .ensures), asks .0, asks .1, rw long (asks .2), rw long (asks .3), asks .4)
 
   add-result : splice-lts.Need-add-result (calls t) (splice-at t) splice.Post
   add-result c =

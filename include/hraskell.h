@@ -128,7 +128,8 @@ uint32_t hraskell_evaluate(
 /* A record of the step log. */
 struct hraskell_step {
     uint32_t gate;  /* the gate variable of the step */
-    uint32_t terms; /* the terms after it */
+    uint32_t terms; /* the terms after it, like ones gathered */
+    uint32_t made;  /* its terms before gathering */
 };
 
 /*
@@ -157,12 +158,21 @@ struct hraskell_step {
  * polynomial of at most T terms, W + 1 words for each (the coefficient, then
  * the set of variables, v at bit v mod 64 of word v/64), sets falling when
  * read as one number, then zeros to its end; scratch is all zeros to its end;
- * log[k] has the gate of step k + 1 and the terms after it, for each step
- * completed, and other records keep their values; occurrences[v], for v from
- * 1 to M, is the number of terms of the polynomial in store that hold v,
- * occurrences[0] the number of all its terms, and words from M + 1 on keep
- * their values. For R at step 0 no term is held: store and the first M + 1
- * words of occurrences are zeros.
+ * log[k] has the gate of step k + 1, the terms after it and its terms before
+ * gathering, for each step completed, and other records keep their values;
+ * occurrences[v], for v from 1 to M, is the number of terms of the polynomial
+ * in store that hold v, occurrences[0] the number of all its terms, and words
+ * from M + 1 on keep their values. For R at step 0 no term is held: store and
+ * the first M + 1 words of occurrences are zeros.
+ *
+ * The terms of a step before gathering are those without the gate, and all
+ * that the replacement made of the others before like terms met. Of each it
+ * makes, for a gate, the product of what both literals make: 0 none, 1 and a
+ * variable one, an inverse two; for a cell, one for each of the eight whole
+ * coefficients that is not 0 and whose subset has no constant false, also
+ * where the new coefficient vanishes modulo 2^l. They are at most 4 times the
+ * terms before the step, or 8 times with cells; where the gate does not occur
+ * they are these terms.
  *
  * Or gives a refusal: 112 for answer, then 102, 103, 108, 109, 110, 111, and
  * 112 for store, scratch or occurrences with too few words or log with fewer

@@ -1,6 +1,7 @@
 //! A lookup cell: when it is sound, its value, and the polynomial that stands for it.
 
-use crate::rules::CellRules;
+use crate::records::Part;
+use crate::rules::{CellRules, Rules};
 
 /// Three variables can be chosen in so many ways, and a truth byte has so many bits.
 const SUBSETS: usize = 8;
@@ -64,18 +65,24 @@ impl Cell {
     /// The polynomial's terms: a coefficient that is not 0, and the variables of its subset, equal ones not yet joined.
     ///
     /// A subset with the constant false makes none.
-    pub fn terms(&self, rules: &CellRules) -> Vec<(Vec<u32>, i64)> {
+    pub fn terms(&self, rules: &Rules) -> Vec<Part> {
         let mut terms = Vec::new();
-        for (subset, coefficient) in self.coefficients(rules).into_iter().enumerate() {
+        let coefficients = self.coefficients(&rules.cells);
+        for (subset, coefficient) in coefficients.into_iter().enumerate() {
             let mut chosen: Vec<u32> = (0..3)
                 .filter(|&place| has(subset, place))
                 .map(|place| self.variables[place])
                 .collect();
-            if !rules.variable_0_is_false {
+            if !rules.cells.variable_0_is_false {
                 chosen.retain(|&variable| variable != 0);
             }
-            if coefficient != 0 && !chosen.contains(&0) {
+            if coefficient == 0 {
+                continue;
+            }
+            if !chosen.contains(&0) {
                 terms.push((chosen, coefficient));
+            } else if !rules.peak.subset_with_false_makes_none {
+                terms.push((vec![], 0));
             }
         }
         terms

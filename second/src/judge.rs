@@ -1,5 +1,6 @@
 //! Judging: the checks, the run of steps, and the answer.
 
+use crate::peak::made_in_step;
 use crate::polynomial::{Polynomial, Set};
 use crate::reading::{Layout, Reading};
 use crate::records::Records;
@@ -95,14 +96,14 @@ impl<'a> Question<'a> {
         let mut log = Vec::new();
         for &gate in self.order {
             let next = held.step(rules, gate, self.netlist.record(gate));
-            let terms = next.count() as u32;
+            let record = record_of_step(rules, gate, &held, &next);
             if !self.has_room(&rules.judging, &next) {
                 let answer = Answer::OutOfRoom {
                     step: log.len() as u32 + 1,
                     terms: held.count() as u32,
                 };
                 if !rules.judging.step_without_room_has_no_record {
-                    log.push(Step { gate, terms });
+                    log.push(record);
                 }
                 return Run {
                     answer,
@@ -113,7 +114,7 @@ impl<'a> Question<'a> {
             }
             // A step that changes nothing is a step all the same.
             if rules.judging.idle_steps_count || held.mentions(gate) {
-                log.push(Step { gate, terms });
+                log.push(record);
             }
             held = next;
         }
@@ -162,6 +163,15 @@ impl<'a> Question<'a> {
             got: self.netlist.word(&rules.table, &values),
             wanted: self.reading.wanted_by(&rules.adding, layout.n, operands),
         }
+    }
+}
+
+/// What the log says of a step: its gate, the terms after it, and those before gathering.
+fn record_of_step(rules: &Rules, gate: u32, before: &Polynomial, after: &Polynomial) -> Step {
+    Step {
+        gate,
+        terms: after.count() as u32,
+        made: made_in_step(&rules.peak, gate, before, after),
     }
 }
 

@@ -17,6 +17,7 @@ mod mutants;
 pub mod netlists;
 mod occurrences;
 pub mod orders;
+mod peak;
 pub mod polynomial;
 pub mod random;
 pub mod reading;

@@ -90,8 +90,8 @@ fn judge_command(
         Err(number) => (Answer::Refused(number), Vec::new()),
     };
     println!("{}", answer_line(reading, &answer));
-    for Step { gate, terms } in log.iter().filter(|_| shows_steps) {
-        println!("{gate} {terms}");
+    for Step { gate, terms, made } in log.iter().filter(|_| shows_steps) {
+        println!("{gate} {terms} {made}");
     }
     Ok(true)
 }

@@ -18,6 +18,7 @@ impl Rules {
         all.extend(of_polynomial());
         all.extend(of_lent_words());
         all.extend(of_occurrences());
+        all.extend(of_peak());
         all.extend(of_desk());
         all
     }
@@ -175,6 +176,18 @@ fn of_occurrences() -> Vec<Mutant> {
         bend("judge: occurrences left as they were at a later R", |r| r.occurrences.full_step_is_written = false),
         bend("judge: at a later R the terms without room counted", |r| r.occurrences.full_step_counts_what_is_held = false),
         bend("judge: words past the occurrences cleared", |r| r.occurrences.words_past_are_kept = false),
+    ]
+}
+
+#[rustfmt::skip]
+fn of_peak() -> Vec<Mutant> {
+    vec![
+        bend("judge: made counted after gathering", |r| r.peak.is_counted_before_gathering = false),
+        bend("judge: literal 0 makes one", |r| r.peak.literal_0_makes_none = false),
+        bend("judge: a subset with the constant false makes one", |r| r.peak.subset_with_false_makes_none = false),
+        bend("judge: terms that vanish modulo 2^l not counted as made", |r| r.peak.vanished_terms_count = false),
+        bend("judge: x times x joined before made is counted", |r| r.peak.squares_join_after_counting = false),
+        bend("judge: a gate that does not occur has made 0", |r| r.peak.idle_steps_have_the_terms_before = false),
     ]
 }
 

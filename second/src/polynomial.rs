@@ -20,7 +20,7 @@ pub struct Polynomial {
     gathering: Gathering,
 }
 
-/// What was put in, and what became of it when like terms met. Bent rules ask for it.
+/// What was put in, and what became of it when like terms met. The log asks for the first, bent rules for all.
 #[derive(Clone, Debug, Default, PartialEq, Eq)]
 struct Gathering {
     /// How many terms were put in.
@@ -97,15 +97,21 @@ impl Polynomial {
                 let product = variables
                     .iter()
                     .fold(rest.clone(), |set, &v| with(set, v as u16, joins));
-                let made = times(coefficient, *whole);
-                if made & self.coefficient_bits == 0 && !rules.cells.vanished_terms_go {
-                    next.terms.entry(product).or_insert(0);
-                } else {
-                    next.add(product, made);
-                }
+                next.put_made(rules, product, times(coefficient, *whole));
             }
         }
         next
+    }
+
+    /// Puts in a term that the replacement made. One that vanishes modulo 2^l is counted as any other, and goes.
+    fn put_made(&mut self, rules: &Rules, set: Set, coefficient: u64) {
+        let vanishes = coefficient & self.coefficient_bits == 0;
+        if vanishes && !rules.cells.vanished_terms_go {
+            self.gathering.put_in += 1;
+            self.terms.entry(set).or_insert(0);
+        } else if !vanishes || rules.peak.vanished_terms_count {
+            self.add(set, coefficient);
+        }
     }
 
     /// Gathers one term in; a coefficient that becomes zero takes its term away.
@@ -128,7 +134,7 @@ impl Polynomial {
         self.terms.len()
     }
 
-    /// How many terms there were before gathering.
+    /// How many terms there were before gathering, each counted as it was put in.
     pub fn ungathered_count(&self) -> usize {
         self.gathering.put_in
     }

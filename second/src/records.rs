@@ -2,6 +2,7 @@
 
 use crate::cells::Cell;
 use crate::rules::{CellRules, Rules};
+use std::collections::BTreeMap;
 
 /// What the records of a table are. The caller names it; a table has records of one kind only.
 #[derive(Clone, Copy, Debug, PartialEq, Eq)]
@@ -70,19 +71,17 @@ impl Record {
         }
     }
 
-    /// The record's polynomial. A gate is the product of its two literals.
+    /// The record's polynomial, multiplied out and not yet gathered. A gate is the product of its two literals.
     pub fn parts(self, rules: &Rules) -> Vec<Part> {
-        let (rhs0, rhs1) = match self {
-            Record::Gate(rhs0, rhs1) => (rhs0, rhs1),
-            Record::Cell(cell) => return cell.terms(&rules.cells),
+        let parts = match self {
+            Record::Gate(rhs0, rhs1) => product(factor(rules, rhs0), factor(rules, rhs1)),
+            Record::Cell(cell) => cell.terms(rules),
         };
-        let mut parts = Vec::new();
-        for (x, x_sign) in literal_parts(rhs0) {
-            for (y, y_sign) in literal_parts(rhs1) {
-                parts.push(([x.clone(), y].concat(), x_sign * y_sign));
-            }
+        if rules.peak.squares_join_after_counting {
+            parts
+        } else {
+            gathered(parts)
         }
-        parts
     }
 
     /// Whether x·x is x when this record is put in place of its variable.
@@ -92,6 +91,36 @@ impl Record {
             Record::Cell(_) => rules.cells.squares_join,
         }
     }
+}
+
+/// Every part of one times every part of the other; x·x is left as it is.
+fn product(one: Vec<Part>, other: Vec<Part>) -> Vec<Part> {
+    let mut parts = Vec::new();
+    for (x, x_sign) in &one {
+        for (y, y_sign) in &other {
+            parts.push(([&x[..], y].concat(), x_sign * y_sign));
+        }
+    }
+    parts
+}
+
+/// A literal as a factor of a gate. By a bent rule literal 0 is a part as well, whose coefficient is 0.
+fn factor(rules: &Rules, literal: u32) -> Vec<Part> {
+    if literal == 0 && !rules.peak.literal_0_makes_none {
+        return vec![(vec![], 0)];
+    }
+    literal_parts(literal)
+}
+
+/// The same polynomial with x·x as x and like parts as one. Only a bent rule asks for it.
+fn gathered(parts: Vec<Part>) -> Vec<Part> {
+    let mut sums = BTreeMap::new();
+    for (mut variables, whole) in parts {
+        variables.sort_unstable();
+        variables.dedup();
+        *sums.entry(variables).or_insert(0) += whole;
+    }
+    sums.into_iter().filter(|&(_, sum)| sum != 0).collect()
 }
 
 /// A literal stands for 0, 1, x or 1 - x.

@@ -1,4 +1,4 @@
-//! The rules of document 01 and of sections 5, 6 and 12 of document 02 as values, and the numbers of refusal.
+//! The rules of document 01 and of sections 5, 6, 9 and 12 of document 02 as values, and the numbers of refusal.
 //!
 //! Every field states one rule, and `of_document` gives it the document's
 //! value. The rest of the program asks these fields instead of writing the
@@ -41,6 +41,7 @@ pub struct Rules {
     pub adding: AddingRules,
     pub judging: JudgingRules,
     pub occurrences: OccurrenceRules,
+    pub peak: PeakRules,
     pub desk: DeskRules,
 }
 
@@ -163,6 +164,17 @@ pub struct OccurrenceRules {
     pub words_past_are_kept: bool,
 }
 
+/// What a step counts among its terms before gathering. None of it changes any other number.
+#[derive(Clone, Copy, Debug, PartialEq, Eq)]
+pub struct PeakRules {
+    pub is_counted_before_gathering: bool,
+    pub literal_0_makes_none: bool,
+    pub subset_with_false_makes_none: bool,
+    pub vanished_terms_count: bool,
+    pub squares_join_after_counting: bool,
+    pub idle_steps_have_the_terms_before: bool,
+}
+
 /// What the desk program takes, in what order it checks, and how it prints.
 #[derive(Clone, Copy, Debug, PartialEq, Eq)]
 pub struct DeskRules {
@@ -192,6 +204,7 @@ impl Rules {
             adding: AddingRules::of_document(),
             judging: JudgingRules::of_document(),
             occurrences: OccurrenceRules::of_document(),
+            peak: PeakRules::of_document(),
             desk: DeskRules::of_document(),
         }
     }
@@ -326,6 +339,19 @@ impl OccurrenceRules {
             full_step_is_written: true,
             full_step_counts_what_is_held: true,
             words_past_are_kept: true,
+        }
+    }
+}
+
+impl PeakRules {
+    const fn of_document() -> PeakRules {
+        PeakRules {
+            is_counted_before_gathering: true,
+            literal_0_makes_none: true,
+            subset_with_false_makes_none: true,
+            vanished_terms_count: true,
+            squares_join_after_counting: true,
+            idle_steps_have_the_terms_before: true,
         }
     }
 }

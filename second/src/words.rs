@@ -6,12 +6,14 @@ use crate::polynomial::{Polynomial, Set};
 use crate::rules::{self, JudgingRules, OccurrenceRules, Rules};
 use crate::table::Counts;
 
-/// A record of the log: the gate of a step, and the terms after it. Its layout is that of a C host.
+/// A record of the log: the gate of a step, the terms after it, and those before like ones met. Its layout is that of a
+/// C host.
 #[derive(Clone, Copy, Debug, Default, PartialEq, Eq)]
 #[repr(C)]
 pub struct Step {
     pub gate: u32,
     pub terms: u32,
+    pub made: u32,
 }
 
 /// The words and records lent to the judge.
@@ -82,13 +84,14 @@ fn leave_log(rules: &JudgingRules, run: &Run, log: &mut [Step]) {
     if !rules.other_records_are_kept {
         log.fill(Step::default());
     }
-    for (place, &Step { gate, terms }) in log.iter_mut().zip(&run.log) {
+    for (place, &step) in log.iter_mut().zip(&run.log) {
         *place = if rules.gate_comes_before_terms {
-            Step { gate, terms }
+            step
         } else {
             Step {
-                gate: terms,
-                terms: gate,
+                gate: step.terms,
+                terms: step.gate,
+                ..step
             }
         };
     }

@@ -106,7 +106,9 @@ fn one_bit_is_equal_and_leaves_the_terms_worked_out() {
         let seen = judged(&made, kind, 128, &SEVEN_DOWN);
         assert_eq!(seen.answer, Equal { steps: 7, terms: 0 });
         assert!(holds(&seen.store, &[]) && holds(&seen.scratch, &[]));
-        assert_eq!(seen.log, records(&SEVEN_DOWN, &[8, 8, 4, 6, 7, 2, 0]));
+        // Gates 11, 10, 8 and 7 make four, and are in 1, 2, 1 and 2 terms; the others make one.
+        let (terms, peaks) = ([8, 8, 4, 6, 7, 2, 0], [8, 14, 8, 7, 12, 7, 2]);
+        assert_eq!(seen.log, records(&SEVEN_DOWN, &terms, &peaks));
         // 2 x11 + x8 - 2 c1 - c0 - ab, modulo 4.
         let seen = judged(&made, kind, 128, &[]);
         assert_eq!(seen.answer, Unfinished { steps: 0, terms: 5 });

@@ -1,4 +1,4 @@
-//! The bench sheet P1 to P11. All expected values are those of document 01 or worked out by hand from it.
+//! The bench sheet P1 to P11. All expected values are those of documents 01 and 02 or worked out by hand from them.
 
 mod common;
 
@@ -13,7 +13,7 @@ const S: u32 = 1;
 const T: u32 = 2;
 const TEN_DOWN_TO_FIVE: [u32; 10] = [14, 13, 12, 11, 10, 9, 8, 7, 6, 5];
 
-/// A sheet's row: netlist, kind, order, answer, words of the last polynomial, terms in the log.
+/// A sheet's row: netlist, kind, order, answer, words of the last polynomial, terms in the log, terms before gathering.
 type Row = (
     &'static str,
     Made,
@@ -21,6 +21,7 @@ type Row = (
     &'static [u32],
     Answer,
     &'static [u64],
+    &'static [u32],
     &'static [u32],
 );
 
@@ -44,27 +45,32 @@ fn rows() -> Vec<Row> {
     let and = |outputs: &[u32]| and_netlist(outputs);
     let inverted = Made::new(2, &[7, 0], &[(5, 3)]);
     vec![
-        ("P1", and(&[6, 0]), U, &[3], one, &[], &[0]),
-        ("P2", and(&[6, 0]), S, &[3], one, &[], &[0]),
-        ("P3", and(&[6, 6]), U, &[3], differs(1, 1, 1, 3, 1), &[2, 6], &[1]),
-        ("P4", and(&[6, 6]), S, &[3], differs(1, 1, 1, 3, 1), &[2, 6], &[1]),
-        ("P5", and(&[7, 0]), U, &[3], differs(2, 0, 0, 1, 0), &[2, 6, 1, 0], &[2]),
-        ("P6", and(&[6, 0]), U, &[], none, &[1, 8, 3, 6], &[]),
-        ("P7", and(&[6, 0]), U, &[3, 3], two, &[], &[0, 0]),
-        ("P8", and(&[6]), T, &[3], one, &[], &[0]),
-        ("P9", inverted, U, &[3], differs(3, 1, 0, 1, 0), &[2, 6, 1, 4, 1, 2], &[3]),
+        // x3 - ab: ab stays, and x3 makes one.
+        ("P1", and(&[6, 0]), U, &[3], one, &[], &[0], &[2]),
+        ("P2", and(&[6, 0]), S, &[3], one, &[], &[0], &[2]),
+        // 3 x3 - ab.
+        ("P3", and(&[6, 6]), U, &[3], differs(1, 1, 1, 3, 1), &[2, 6], &[1], &[2]),
+        ("P4", and(&[6, 6]), S, &[3], differs(1, 1, 1, 3, 1), &[2, 6], &[1], &[2]),
+        // 1 - x3 - ab.
+        ("P5", and(&[7, 0]), U, &[3], differs(2, 0, 0, 1, 0), &[2, 6, 1, 0], &[2], &[3]),
+        ("P6", and(&[6, 0]), U, &[], none, &[1, 8, 3, 6], &[], &[]),
+        // After the first step there is no term.
+        ("P7", and(&[6, 0]), U, &[3, 3], two, &[], &[0, 0], &[2, 0]),
+        ("P8", and(&[6]), T, &[3], one, &[], &[0], &[2]),
+        // 1 - x3 - ab, where x3 is (1 - a)(1 - b) and makes four.
+        ("P9", inverted, U, &[3], differs(3, 1, 0, 1, 0), &[2, 6, 1, 4, 1, 2], &[3], &[6]),
     ]
 }
 
 #[test]
 fn p1_to_p9_give_their_answers_words_and_logs() {
-    for (name, made, kind, order, answer, words, terms) in rows() {
+    for (name, made, kind, order, answer, words, terms, peaks) in rows() {
         let seen = judged(&made, kind, 128, order);
         assert_eq!(seen.answer, answer, "{name}");
         assert_eq!(seen.store.len(), 256, "{name}");
         assert!(holds(&seen.store, words), "{name}");
         assert_eq!(seen.scratch, vec![0; 1_024], "{name}");
-        assert_eq!(seen.log, records(order, terms), "{name}");
+        assert_eq!(seen.log, records(order, terms, peaks), "{name}");
     }
 }
 
@@ -79,8 +85,11 @@ fn p10_two_bits_are_equal() {
         }
     );
     assert!(holds(&seen.store, &[]));
-    assert!(seen.log.iter().map(|step| step.gate).eq(TEN_DOWN_TO_FIVE));
-    assert_eq!(seen.log[9].terms, 0);
+    // Gates 14, 13, 11 and 10 read two inverted literals and make four, the others make one. They are in 1, 2, 4, 1, 2,
+    // 4, 1, 1, 1 and 1 of the terms before their steps, of which there are 8, 10, 13, 8, 10, 13, 8, 6, 4 and 2.
+    let terms = [10, 13, 8, 10, 13, 8, 6, 4, 2, 0];
+    let peaks = [11, 16, 13, 11, 16, 13, 8, 6, 4, 2];
+    assert_eq!(seen.log, records(&TEN_DOWN_TO_FIVE, &terms, &peaks));
 }
 
 #[test]
@@ -109,7 +118,10 @@ fn p11_two_bits_differ_when_signed() {
     assert_eq!(seen.answer, wanted);
     // 4 a0 b1 + 4 a1 b0.
     assert!(holds(&seen.store, &[4, 18, 4, 12]));
-    assert_eq!(seen.log[9].terms, 2);
+    // As P10 until a1 b0 and a0 b1 no longer cancel at the steps of 7 and 6, but join.
+    let terms = [10, 13, 8, 10, 13, 8, 6, 5, 4, 2];
+    let peaks = [11, 16, 13, 11, 16, 13, 8, 6, 5, 4];
+    assert_eq!(seen.log, records(&TEN_DOWN_TO_FIVE, &terms, &peaks));
 }
 
 #[test]

@@ -102,7 +102,8 @@ fn the_parity_of_three_inputs_leaves_its_polynomial() {
     ];
     assert!(holds(&seen.store, &words));
     assert_eq!((seen.store.len(), seen.scratch), (256, vec![0; 2_048]));
-    assert_eq!(seen.log, records(&[5], &[9]));
+    // Four products stay, and seven coefficients of byte 150 are not 0.
+    assert_eq!(seen.log, records(&[5], &[9], &[11]));
 }
 
 #[test]
@@ -133,6 +134,7 @@ fn a_coefficient_that_vanishes_is_put_in_and_dropped() {
     assert_eq!((start.count(), next.ungathered_count()), (5, 7));
     assert_eq!(next.count(), 6);
     let seen = judged(&made, 0, 128, &[5]);
+    assert_eq!(seen.log, records(&[5], &[6], &[7]));
     assert!(holds(
         &seen.store,
         &[12, 20, 14, 18, 14, 12, 15, 10, 8, 4, 8, 2]
@@ -145,6 +147,7 @@ fn a_step_makes_eight_terms_of_one() {
     let order = falling(made.counts);
     // Ten product terms below 2^4; then 1, 4, 32 and 256, of which that of a_0 b_0 meets the product's and goes.
     let terms = [11, 14, 42, 255];
+    let peaks = [11, 14, 42, 266];
     let answer = Differs {
         steps: 4,
         terms: 255,
@@ -155,10 +158,12 @@ fn a_step_makes_eight_terms_of_one() {
         wanted: 0,
     };
     let seen = judged(&made, 2, 255, &order);
-    assert_eq!((seen.answer, seen.log), (answer, records(&order, &terms)));
+    assert_eq!(seen.answer, answer);
+    assert_eq!(seen.log, records(&order, &terms, &peaks));
     let full = judged(&made, 2, 254, &order);
     assert_eq!(full.answer, OutOfRoom { step: 4, terms: 42 });
-    assert_eq!(full.log[..3], records(&order[..3], &terms[..3]));
+    let before_full = records(&order[..3], &terms[..3], &peaks[..3]);
+    assert_eq!(full.log[..3], before_full);
     assert_eq!(full.log[3..], marked_steps(4)[3..]);
 }
 

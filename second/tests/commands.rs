@@ -48,7 +48,7 @@ fn judge_prints_the_answer_and_the_steps() {
     assert_eq!(printed(&["judge", "u", "128", netlist], b""), "E 1 0\n");
     assert_eq!(
         printed(&["judge", "--steps", "s", "128", netlist, order], b""),
-        "E 2 0\n3 0\n3 0\n"
+        "E 2 0\n3 0 2\n3 0 0\n"
     );
     let empty = empty.to_str().unwrap();
     let unfinished = printed(&["judge", "u", "128", netlist, empty, "--steps"], b"");
@@ -99,7 +99,9 @@ fn judge_shows_the_steps_before_there_was_no_room() {
         &["judge", "--steps", "t", "254", netlist.to_str().unwrap()],
         b"",
     );
-    assert_eq!(lines, "R 7 74\n15 12\n14 14\n13 18\n12 26\n11 42\n10 74\n");
+    // Nothing meets a like term before the last step.
+    let steps = "15 12 12\n14 14 14\n13 18 18\n12 26 26\n11 42 42\n10 74 74\n";
+    assert_eq!(lines, format!("R 7 74\n{steps}"));
 }
 
 #[test]
@@ -121,7 +123,7 @@ fn a_file_of_cells_is_judged_and_evaluated_as_cells() {
     let block = file("and.cells", "3 2 0 2 1\n6\n0\n136 1 2 0\n");
     let block = block.to_str().unwrap();
     let lines = printed(&["judge", "--steps", "u", "128", block], b"");
-    assert_eq!(lines, "E 1 0\n3 0\n");
+    assert_eq!(lines, "E 1 0\n3 0 2\n");
     assert_eq!(printed(&["evaluate", block, "1", "1"], b""), "1\n");
     assert_eq!(printed(&["evaluate", block, "1", "0"], b""), "0\n");
     for (name, text, line) in [

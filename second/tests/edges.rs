@@ -155,13 +155,18 @@ fn out_of_room_at_a_later_step() {
     // Ten product terms below 2^4 throughout; the eight inverted inputs double at each step.
     // At the last step a_0 b_0 cancels one of 256.
     let terms = [12, 14, 18, 26, 42, 74, 255];
+    // Before gathering the last step has 64 times four, and the ten.
+    let peaks = [12, 14, 18, 26, 42, 74, 266];
     for limit in [128, 254] {
         let mut case = JudgeCase::new(&all_false(), 2, limit, order.clone());
         case.store_words += 5;
         case.scratch_words += 3;
         let seen = case.seen(&DOCUMENT);
         assert_eq!(seen.answer, OutOfRoom { step: 7, terms: 74 });
-        assert_eq!(seen.log[..6], records(&order[..6], &terms[..6]));
+        assert_eq!(
+            seen.log[..6],
+            records(&order[..6], &terms[..6], &peaks[..6])
+        );
         assert_eq!(seen.log[6..], marked_steps(7)[6..]);
         assert!(seen.store[2 * 74 - 2] != 0);
         assert!(holds(&seen.store[2 * 74..], &[]) && holds(&seen.scratch, &[]));
@@ -179,7 +184,8 @@ fn out_of_room_at_a_later_step() {
         wanted: 0,
     };
     let seen = judged(&all_false(), 2, 255, &order);
-    assert_eq!((seen.answer, seen.log), (answer, records(&order, &terms)));
+    assert_eq!(seen.answer, answer);
+    assert_eq!(seen.log, records(&order, &terms, &peaks));
 }
 
 #[test]
@@ -259,7 +265,8 @@ fn steps_that_change_nothing_are_steps() {
     let made = Made::new(2, &[6, 0], &[(4, 2), (6, 2)]);
     let seen = judged(&made, 0, 128, &[4, 3, 4, 3]);
     assert_eq!(seen.answer, Equal { steps: 4, terms: 0 });
-    assert_eq!(seen.log, records(&[4, 3, 4, 3], &[2, 0, 0, 0]));
+    let peaks = [2, 2, 0, 0];
+    assert_eq!(seen.log, records(&[4, 3, 4, 3], &[2, 0, 0, 0], &peaks));
 }
 
 #[test]
@@ -268,7 +275,7 @@ fn a_gate_stepped_too_early_comes_back() {
     let made = Made::new(2, &[8, 0], &[(4, 2), (6, 6)]);
     let seen = judged(&made, 0, 128, &[3, 4]);
     assert_eq!(seen.answer, Unfinished { steps: 2, terms: 2 });
-    assert_eq!(seen.log, records(&[3, 4], &[2, 2]));
+    assert_eq!(seen.log, records(&[3, 4], &[2, 2], &[2, 2]));
     assert!(holds(&seen.store, &[1, 8, 3, 6]));
 }
 
@@ -281,7 +288,7 @@ fn lent_words_past_the_least_are_cleared_and_records_kept() {
     let seen = case.seen(&DOCUMENT);
     assert!(holds(&seen.store, &[2, 6, 1, 0]) && holds(&seen.scratch, &[]));
     assert_eq!((seen.store.len(), seen.scratch.len()), (265, 1_033));
-    assert_eq!(seen.log[..1], records(&[3], &[2]));
+    assert_eq!(seen.log[..1], records(&[3], &[2], &[3]));
     assert_eq!(seen.log[1..], marked_steps(4)[1..]);
 }
 

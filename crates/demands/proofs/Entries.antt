@@ -18,6 +18,7 @@ use Rattle.rules.specs.declared.answers.Answer.the-variants.{Unfinished}
 use Rattle.rules.specs.declared.counts.Counts.{Counts}
 use Rattle.rules.proofs.Bits.{bit-cases}
 use Rattle.rules.proofs.Indices.{length-listed, getD-listed}
+use Rattle.rules.proofs.Occurring.{counts-bit}
 use Rattle.demands.specs.Answers.{Answered, Occurs}
 use Rattle.demands.specs.Entries.{terms-with, Entries, OccurrencesExact, UnfinishedEntry, FinishedEntries}
 use Rattle.demands.proofs.Occurs.{not-inputs}
@@ -36,12 +37,6 @@ unfolding occurring counts-at
 occurring-all [] = refl
 occurring-all (t ∷ p) = omega (arith, occurring-all p)
 
--- at a variable a set counts where it holds it
-counts-bit : (s v : ℕ) → 0 < v → counts-at s v ≡ bit s v
-unfolding counts-at
-counts-bit s zero l = absurd (omega arith)
-counts-bit s (suc v) l = refl
-
 module _ (v : ℕ) (l : 0 < v) where
   -- so every term that holds it counts
   occurring-with : (p : Polynomial) → occurring p v ≡ terms-with v p
@@ -51,14 +46,14 @@ module _ (v : ℕ) (l : 0 < v) where
       rw (counts-bit (t .1) v l, occurring-with p) (sym (sum-first (length p) (λ i. bit (getD (t ∷ p) i (0, 0) .1) v)))
 
   -- a variable that occurs counts
-  occurs-counts : (p : Polynomial) (i : ℕ) → i < length p → bit (getD p i (0, 0) .1) v ≡ 1 → 0 < occurring p v
+  pub occurs-counts : (p : Polynomial) (i : ℕ) → i < length p → bit (getD p i (0, 0) .1) v ≡ 1 → 0 < occurring p v
   unfolding occurring
   occurs-counts [] i k e = absurd (omega arith)
   occurs-counts (t ∷ p) zero k e = omega (arith, counts-bit (t .1) v l, e)
   occurs-counts (t ∷ p) (suc i) k e = omega (arith, occurs-counts p i (omega arith) e)
 
   -- and one that counts occurs
-  counts-occurs : (p : Polynomial) → 0 < occurring p v → Occurs v p
+  pub counts-occurs : (p : Polynomial) → 0 < occurring p v → Occurs v p
   unfolding occurring
   counts-occurs [] h = absurd (omega arith)
   counts-occurs (t ∷ p) h =
@@ -79,7 +74,7 @@ module _ (c : Counts) (p : Polynomial) (words : List ℕ) where
   front-length = length-listed (c .m + 1) (occurring p)
 
   -- an entry is how many terms count there
-  entry-at : (v : ℕ) → v ≤ c .m → getD (with-occurrences c p words) v 0 ≡ occurring p v
+  pub entry-at : (v : ℕ) → v ≤ c .m → getD (with-occurrences c p words) v 0 ≡ occurring p v
   unfolding with-occurrences occurrences
   entry-at v l =
       List·getD-append front (drop (c .m + 1) words) 0 v (omega (arith, front-length)) ∙ getD-listed (c .m + 1) (occurring p) 0 v (omega arith)

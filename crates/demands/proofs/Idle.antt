@@ -13,10 +13,11 @@ use Rattle.rules.specs.Netlist.{variable, inverted, rhs0, rhs1, record-of, reco
 use Rattle.rules.specs.Values.{bit}
 use Rattle.rules.specs.Polynomial.{Term, Polynomial, times-variable, times-literal, times-chosen}
 use Rattle.rules.specs.Cells.{above, below, scaled}
-use Rattle.rules.specs.Steps.{where-held, times-subset, times-whole, times-record, replaced, all-replaced, step}
+use Rattle.rules.specs.Steps.{where-held, times-subset, times-whole, times-record, replaced, all-replaced, made, step}
 use Rattle.rules.specs.Judging.{most-made}
 use Rattle.rules.specs.declared.counts.Counts.{Counts}
 use Rattle.rules.specs.declared.records.Record.{Record}
+use Rattle.rules.specs.declared.records.Record.the-variants.{Gate, Cell}
 use Rattle.rules.specs.declared.records.RecordKind.{RecordKind}
 use Rattle.rules.specs.declared.records.RecordKind.the-variants.{Gates, Cells}
 use Rattle.rules.proofs.Gathered.{unique, under-of}
@@ -67,18 +68,26 @@ one-of-a-whole m z u x1 x2 x3 t = go (eqb (above z + below z) 0)
     go false =
         omega (arith, one-of-each (bit u 0) x1 second, one-of-each (bit u 1) x2 third, one-of-each (bit u 2) x3 ((scaled m z (t .0), t .1) ∷ []))
 
+-- a term times two literals makes at most four
+four-of-a-term : (m x y : ℕ) (t : Term) → length (times-literal m x (times-literal m y (t ∷ []))) ≤ 4
+four-of-a-term m x y t = omega (arith, two-of-each m x (times-literal m y (t ∷ [])), two-of-each m y (t ∷ []))
+
+-- a term times any record makes at most eight
+pub eight-of-a-term : (m : ℕ) (r : Record) (t : Term) → length (times-record m r t) ≤ 8
+unfolding times-record
+eight-of-a-term m (Gate x y) t = omega (arith, four-of-a-term m x y t)
+eight-of-a-term m (Cell byte x1 x2 x3) t = one-at-each 8 _ (λ u. one-of-a-whole m _ u x1 x2 x3 t)
+
 -- a term times a record makes at most four, and at most eight where the record is a lookup cell
 most-of-a-term : (m : ℕ) (kind : RecordKind) (c : Counts) (table : List ℕ) (v : ℕ) (t : Term)
     → (0 < most-made kind) × (length (times-record m (record-of kind c table v) t) ≤ most-made kind)
 unfolding times-record record-of most-made
-most-of-a-term m Gates c table v t =
-    let once = times-literal m (rhs1 c table v) (t ∷ []) in
-    (omega arith, omega (arith, two-of-each m (rhs0 c table v) once, two-of-each m (rhs1 c table v) (t ∷ [])))
-most-of-a-term m Cells c table v t = (omega arith, one-at-each 8 _ (λ u. one-of-a-whole m _ u _ _ _ t))
+most-of-a-term m Gates c table v t = (omega arith, four-of-a-term m (rhs0 c table v) (rhs1 c table v) t)
+most-of-a-term m Cells c table v t = (omega arith, eight-of-a-term m (record-of Cells c table v) t)
 
 -- one step makes at most that many of each term
 pub terms-made : TermsMade
-unfolding all-replaced replaced where-held record-at
+unfolding made all-replaced replaced where-held record-at
 terms-made m c table v [] = omega arith
 terms-made m c table v (t ∷ p) =
     simp length-append (omega (arith, go (bit (t .1) v), terms-made m c table v p, mul-suc (most-made (c .records)) (length p)))
@@ -91,7 +100,7 @@ terms-made m c table v (t ∷ p) =
     go (suc d) = most (t .0, t .1 - 2 ^ v) .1
 
 -- where v does not occur nothing is replaced
-replaced-nowhere : (m v : ℕ) (r : Record) (p : Polynomial) → ((i : ℕ) → i < length p → bit (getD p i (0, 0) .1) v ≡ 0) → all-replaced m v r p ≡ p
+pub replaced-nowhere : (m v : ℕ) (r : Record) (p : Polynomial) → ((i : ℕ) → i < length p → bit (getD p i (0, 0) .1) v ≡ 0) → all-replaced m v r p ≡ p
 unfolding all-replaced replaced where-held
 replaced-nowhere m v r [] none = refl
 replaced-nowhere m v r (t ∷ p) none = rw (none 0 (omega arith), replaced-nowhere m v r p (λ i l. none (suc i) (omega arith)))

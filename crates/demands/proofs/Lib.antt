@@ -37,6 +37,7 @@ pub mod Soonest
 pub mod Right
 pub mod Room
 pub mod Entries
+pub mod Peaks
 pub mod Honest
 pub mod Finishes
 pub mod Decides

@@ -7,7 +7,7 @@ use lib.ListN.{getD}
 use Rattle.rules.specs.Says.{answers, says}
 use Rattle.rules.specs.Bench.{right}
 use Rattle.rules.specs.Judging.{judging, store-after, log-after, occurrences-after}
-use Rattle.demands.specs.StandIns.{handed, and-block, p1, p3, p6, p10, first-terms, NotRefuseEverything, NotAlwaysEqual, NotTouchNothing, NotReduceAtOnce, NotCountAtTheStart, NotInventTheOccurrences, NotInventTheCount}
+use Rattle.demands.specs.StandIns.{handed, and-block, p1, p3, p6, p10, first-terms, first-made, NotRefuseEverything, NotAlwaysEqual, NotTouchNothing, NotReduceAtOnce, NotCountAfterGathering, NotCountAtTheStart, NotInventTheOccurrences, NotInventTheCount}
 
 -- what the judge says of P1, P3 and P6
 p1-says : judging p1 ≡ answers 0 (1 ∷ 0 ∷ [])
@@ -30,6 +30,11 @@ p3-stores = refl
 p10-logs : first-terms (log-after p10) ≡ 10
 unfolding right handed p10
 p10-logs = refl
+
+-- the terms of P1's step, after it and before gathering
+p1-logs : (first-terms (log-after p1) ≡ 0) × (first-made (log-after p1) ≡ 2)
+unfolding right handed and-block p1
+p1-logs = (refl, refl)
 
 -- the occurrences of P1 and of P6 at exit
 p1-counts : occurrences-after p1 ≡ 0 ∷ 0 ∷ 0 ∷ 0 ∷ []
@@ -63,6 +68,13 @@ not-touch-nothing r j = let e : _≡_ {A = ℕ} 77 2 = ap (λ (list : List ℕ).
 pub not-reduce-at-once : NotReduceAtOnce
 not-reduce-at-once r store scratch log occurrences none j =
     let e : first-terms log ≡ 10 = ap first-terms (j .log-records) ∙ p10-logs in
+    omega arith
+
+-- counting the peak after gathering is shut out
+pub not-count-after-gathering : NotCountAfterGathering
+not-count-after-gathering r store scratch log occurrences after j =
+    let terms : first-terms log ≡ 0 = ap first-terms (j .log-records) ∙ p1-logs .0 in
+    let made : first-made log ≡ 2 = ap first-made (j .log-records) ∙ p1-logs .1 in
     omega arith
 
 -- counting the occurrences at the start alone is shut out

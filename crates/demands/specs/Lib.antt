@@ -3,5 +3,6 @@ pub mod Refusals
 pub mod Netlists
 pub mod Answers
 pub mod Entries
+pub mod Peaks
 pub mod Polynomials
 pub mod StandIns

@@ -5,11 +5,11 @@ use mathlib.Core.List.{List, [], _∷_, _++_}
 use Prim.Native.Nat.{ℕ, zero, suc, _+_, _-_, _*_, _/_, _%_, _^_, _<_, _≤_}
 use lib.ListN.{length, getD}
 use Rattle.rules.specs.Each.{joined}
-use Rattle.rules.specs.Netlist.{output, record-at, counts-right, table-sound}
+use Rattle.rules.specs.Netlist.{output, counts-right, table-sound}
 use Rattle.rules.specs.Values.{bit, values}
 use Rattle.rules.specs.Product.{Kind, plain, signed, truncated, multiply-add, multiply-add-signed, complement, adds, operand-width, addend-width, first-word, second-word, outputs-of, negative, size, modulo, product, wanted-word}
 use Rattle.rules.specs.Polynomial.{Term, Polynomial, Below, Under, Coefficients, gather, minus, times-literal}
-use Rattle.rules.specs.Steps.{modulus, start, all-replaced, step}
+use Rattle.rules.specs.Steps.{modulus, start, made, step}
 use Rattle.rules.specs.Judging.{most-made, shown-for, misfits}
 use Rattle.rules.specs.declared.counts.Counts.{Counts}
 
@@ -113,7 +113,7 @@ AddendEither =
 abbrev pub TermsMade : Type 0
 TermsMade =
     (m : ℕ) (c : Counts) (table : List ℕ) (v : ℕ) (p : Polynomial)
-    → length (all-replaced m v (record-at c table v) p) ≤ most-made (c .records) * length p
+    → made m c table v p ≤ most-made (c .records) * length p
 
 -- if v does not occur, a step of it changes nothing
 abbrev pub StepIdle : Type 0

@@ -21,7 +21,7 @@ handed c table order steps =
       order = order;
       store = replicate 256 77;
       scratch = replicate 1024 77;
-      log = replicate steps (record { gate = 77; terms = 77 });
+      log = replicate steps (record { gate = 77; terms = 77; made = 77 });
       occurrences = replicate (c .m + 1) 77;
     }
 
@@ -72,6 +72,16 @@ abbrev pub NotReduceAtOnce : Type 0
 NotReduceAtOnce =
     (r : Answer) (store scratch : List ℕ) (log : List StepRecord) (occurrences : List ℕ) → first-terms log ≡ 0
     → Judged p10 r store scratch log occurrences → ⊥
+
+-- the terms of the first step before gathering, as a log has them
+abbrev pub first-made : List StepRecord → ℕ
+first-made log = getD (map (λ (s : StepRecord). s .made) log) 0 0
+
+-- counting the peak after gathering: the step of P1 has then as many terms as it leaves
+abbrev pub NotCountAfterGathering : Type 0
+NotCountAfterGathering =
+    (r : Answer) (store scratch : List ℕ) (log : List StepRecord) (occurrences : List ℕ) → first-made log ≡ first-terms log
+    → Judged p1 r store scratch log occurrences → ⊥
 
 -- counting the occurrences at the start alone: these are the start's, and the step of P1 leaves no term
 abbrev pub NotCountAtTheStart : Type 0

@@ -7,4 +7,5 @@ pub mod Multiplied
 pub mod Joined
 pub mod Written
 pub mod Parted
+pub mod Made
 pub mod Tables

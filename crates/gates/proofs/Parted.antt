@@ -11,7 +11,7 @@ use borrow.Author.Tests.{eq-eqb, eqb-true, eqb-false, not-true}
 use Rattle.rules.specs.Cells.{above, below}
 use Rattle.rules.specs.Each.{sum, joined}
 use Rattle.rules.specs.Netlist.{variable, inverted, EveryVariable}
-use Rattle.rules.specs.Polynomial.{Polynomial, coefficient-at, times-variable, times-literal, times-chosen}
+use Rattle.rules.specs.Polynomial.{Term, Polynomial, coefficient-at, times-variable, times-literal, times-chosen}
 use Rattle.rules.specs.Steps.{times-subset, times-whole, times-record}
 use Rattle.rules.specs.Values.{bit}
 use Rattle.rules.specs.declared.records.Record.{Record}
@@ -31,11 +31,11 @@ twice : (m c : ℕ) → c ≤ m → m - (m - c) ≡ c
 twice m c h = omega arith
 
 -- every term times a literal, by its variable and whether it is inverted
-by-literal : ℕ → ℕ → ℕ → Polynomial → Polynomial
+unfoldable pub by-literal : ℕ → ℕ → ℕ → Polynomial → Polynomial
 by-literal m v n [] = []
 by-literal m v n (t ∷ p) = times-variable m v n t ++ by-literal m v n p
 
-literal-by : (m x : ℕ) (p : Polynomial) → times-literal m x p ≡ by-literal m (variable x) (inverted x) p
+pub literal-by : (m x : ℕ) (p : Polynomial) → times-literal m x p ≡ by-literal m (variable x) (inverted x) p
 unfolding times-literal by-literal
 literal-by m x [] = refl
 literal-by m x (t ∷ p) = ap (λ (q : Polynomial). times-variable m (variable x) (inverted x) t ++ q) (literal-by m x p)
@@ -85,10 +85,13 @@ unfolding record-variables
 record-low (Gate x y) v l h = (h .0, h .1, l)
 record-low (Cell byte x1 x2 x3) v l h = (h .0, h .1, h .2)
 
--- a row with the same coefficients
+-- a row with the same coefficients makes the same
+same-makes : (m : ℕ) (row other : ℕ → ℤ) (x y z : ℕ) (t : Term) → Same other row → times-row m row x y z t ≡ times-row m other x y z t
+same-makes m row other x y z t e = same-row m row other x y z t (λ i l. ap (λ (k : ℤ). times-whole m k i x y z t) (sym (e i l)))
+
 same-alike : (r : Record) (q : Variables) (row other : ℕ → ℤ) → Same other row → Alike r q row → Alike r q other
 same-alike r q row other e a m u c s h =
-    a m u c s h ∙ ap (λ (p : Polynomial). coefficient-at p u % m) (same-row m row other (q .x) (q .y) (q .z) (c, s) (λ i l. ap (λ (k : ℤ). times-whole m k i (q .x) (q .y) (q .z) (c, s)) (sym (e i l))))
+    a m u c s h ∙ ap (λ (p : Polynomial). coefficient-at p u % m) (same-makes m row other (q .x) (q .y) (q .z) (c, s) e)
 
 same-free : (k : ℕ) (row other : ℕ → ℤ) → Same other row → Free k row → Free k other
 same-free k row other e f u a b = e u a ∙ f u a b
@@ -138,18 +141,15 @@ within-more b d row l f u a = let w = f u a in (omega (arith, w .0), omega (arit
 -- what puts in a variable that there is none of is left out, the third first: the rows after each of the three steps
 module _ (r : Record) (one two three : ℕ → ℤ) (e1 : Same one (leaving (record-variables r .z) 2 (record-row r))) (e2 : Same two (leaving (record-variables r .x) 0 one))
     (e3 : Same three (leaving (record-variables r .y) 1 two)) where
-  -- each makes the same of every term
-  one-alike : Alike r (record-variables r) one
-  one-alike = same-alike r (record-variables r) _ one e1
-      (λ m u c s h. record-alike r m u c s h ∙ ap (λ (p : Polynomial). coefficient-at p u % m) (leave-z m (record-row r) (record-variables r .x) (record-variables r .y) (record-variables r .z) (c, s)))
-
-  two-alike : Alike r (record-variables r) two
-  two-alike = same-alike r (record-variables r) _ two e2
-      (λ m u c s h. one-alike m u c s h ∙ ap (λ (p : Polynomial). coefficient-at p u % m) (leave-x m one (record-variables r .x) (record-variables r .y) (record-variables r .z) (c, s)))
-
-  three-alike : Alike r (record-variables r) three
-  three-alike = same-alike r (record-variables r) _ three e3
-      (λ m u c s h. two-alike m u c s h ∙ ap (λ (p : Polynomial). coefficient-at p u % m) (leave-y m two (record-variables r .x) (record-variables r .y) (record-variables r .z) (c, s)))
+  -- the last makes what the record's coefficients make
+  pub left-makes : (m : ℕ) (t : Term)
+      → times-row m (record-row r) (record-variables r .x) (record-variables r .y) (record-variables r .z) t
+      ≡ times-row m three (record-variables r .x) (record-variables r .y) (record-variables r .z) t
+  left-makes m t =
+      let q = record-variables r in
+      leave-z m (record-row r) (q .x) (q .y) (q .z) t ∙ same-makes m _ one (q .x) (q .y) (q .z) t e1
+      ∙ leave-x m one (q .x) (q .y) (q .z) t ∙ same-makes m _ two (q .x) (q .y) (q .z) t e2
+      ∙ leave-y m two (q .x) (q .y) (q .z) t ∙ same-makes m _ three (q .x) (q .y) (q .z) t e3
 
   left-parted : Within 4 two → Parted r (record-variables r) three 4
   left-parted near = record {
@@ -158,7 +158,7 @@ module _ (r : Record) (one two three : ℕ → ℤ) (e1 : Same one (leaving (rec
     no-y = λ k. same-free 1 _ three e3 (leaving-free 1 two _ k);
     no-z = λ k. same-free 2 _ three e3 (leaving-keeps 2 1 _ two (same-free 2 _ two e2 (leaving-keeps 2 0 _ one (same-free 2 _ one e1 (leaving-free 2 (record-row r) _ k)))));
     near = within-same 4 three _ (leaving-within 1 (record-variables r .y) 4 two near) e3;
-    alike = three-alike;
+    alike = λ m u c s h. record-alike r m u c s h ∙ ap (λ (p : Polynomial). coefficient-at p u % m) (left-makes m (c, s));
   }
 
 -- what it says that two variables are one

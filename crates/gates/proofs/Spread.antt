@@ -12,7 +12,7 @@ use borrow.Author.Tests.{eqb-true, eqb-false}
 use Rattle.rules.specs.Cells.{above, below, scaled}
 use Rattle.rules.specs.Each.{sum}
 use Rattle.rules.specs.Values.{bit}
-use Rattle.rules.specs.Polynomial.{hit, coefficient-at, with-variable, times-chosen}
+use Rattle.rules.specs.Polynomial.{Term, hit, coefficient-at, with-variable, times-chosen}
 use Rattle.rules.specs.Steps.{times-subset, times-whole}
 use Rattle.rules.proofs.Bits.{bit-cases}
 use Rattle.rules.proofs.Indices.{sum-same}
@@ -37,6 +37,28 @@ chosen-one (suc d) (suc v) k s h = refl
 unfoldable pub filled : ℕ → ℕ → ℕ → ℕ → ℕ → ℕ
 filled x y z s u = put-by (bit u 0) (put-by (bit u 1) (put-by (bit u 2) s z) y) x
 
+-- a coefficient that puts no constant false in makes one term, with its variables put in, or none where it is 0
+pub whole-makes : (m : ℕ) (z : ℤ) (u x y w : ℕ) (t : Term)
+    → (x ≡ 0 → bit u 0 ≡ 1 → z ≡ pos 0) → (y ≡ 0 → bit u 1 ≡ 1 → z ≡ pos 0) → (w ≡ 0 → bit u 2 ≡ 1 → z ≡ pos 0)
+    → times-whole m z u x y w t ≡ cond (eqb (above z + below z) 0) [] ((scaled m z (t .0), filled x y w (t .1) u) ∷ [])
+unfolding times-whole times-subset filled above below
+whole-makes m z u x y w t fx fy fz = go (eqb (above z + below z) 0) refl
+  where
+    c : ℕ
+    c = scaled m z (t .0)
+
+    go : (none : Bool) → eqb (above z + below z) 0 ≡ none
+        → cond none [] (times-chosen (bit u 0) x (times-chosen (bit u 1) y (times-chosen (bit u 2) w ((c, t .1) ∷ []))))
+        ≡ cond none [] ((c, put-by (bit u 0) (put-by (bit u 1) (put-by (bit u 2) (t .1) w) y) x) ∷ [])
+    go true e = refl
+    go false e =
+        let some : z ≡ pos 0 → ⊥ = λ q. eqb-false _ 0 e (ap (λ (y : ℤ). above y + below y) q ∙ none-apart) in
+        let off : (v k : ℕ) → (v ≡ 0 → bit u k ≡ 1 → z ≡ pos 0) → v ≡ 0 → bit u k ≡ 0 = λ v k f q. ⊎-elim (λ (b : bit u k ≡ 0). b) (λ (b : bit u k ≡ 1). absurd (some (f q b))) (bit-cases u k) in
+        rw (chosen-one (bit u 2) w c (t .1) (off w 2 fz), chosen-one (bit u 1) y c (put-by (bit u 2) (t .1) w) (off y 1 fy), chosen-one (bit u 0) x c (put-by (bit u 1) (put-by (bit u 2) (t .1) w) y) (off x 0 fx))
+      where
+        none-apart : above (pos 0) + below (pos 0) ≡ 0
+        none-apart = refl
+
 -- the coefficient at t of what a row of coefficients makes of a term (c, s)
 module _ (m c t : ℕ) where
   -- a coefficient at one set
@@ -58,20 +80,12 @@ module _ (m c t : ℕ) where
   -- one coefficient's term
   whole-share : (z : ℤ) (u x y w s : ℕ) → (x ≡ 0 → bit u 0 ≡ 1 → z ≡ pos 0) → (y ≡ 0 → bit u 1 ≡ 1 → z ≡ pos 0) → (w ≡ 0 → bit u 2 ≡ 1 → z ≡ pos 0)
       → coefficient-at (times-whole m z u x y w (c, s)) t ≡ share (filled x y w s u) z
-  unfolding times-whole times-subset filled coefficient-at share above below
-  whole-share z u x y w s fx fy fz = go (eqb (above z + below z) 0) refl
+  unfolding coefficient-at share
+  whole-share z u x y w s fx fy fz = rw (whole-makes m z u x y w (c, s) fx fy fz) (go (eqb (above z + below z) 0) refl)
     where
-      go : (none : Bool) → eqb (above z + below z) 0 ≡ none
-          → coefficient-at (cond none [] (times-chosen (bit u 0) x (times-chosen (bit u 1) y (times-chosen (bit u 2) w ((scaled m z c, s) ∷ []))))) t
-          ≡ hit t (put-by (bit u 0) (put-by (bit u 1) (put-by (bit u 2) s w) y) x) (scaled m z c)
+      go : (none : Bool) → eqb (above z + below z) 0 ≡ none → coefficient-at (cond none [] ((scaled m z c, filled x y w s u) ∷ [])) t ≡ hit t (filled x y w s u) (scaled m z c)
       go true e = sym (rw (scaled-none m z c (whole-none z (eqb-true _ 0 e))) (hit-zero _ t))
-      go false e =
-          let some : z ≡ pos 0 → ⊥ = λ q. eqb-false _ 0 e (ap (λ (y : ℤ). above y + below y) q ∙ none-apart) in
-          let off : (v k : ℕ) → (v ≡ 0 → bit u k ≡ 1 → z ≡ pos 0) → v ≡ 0 → bit u k ≡ 0 = λ v k f q. ⊎-elim (λ (b : bit u k ≡ 0). b) (λ (b : bit u k ≡ 1). absurd (some (f q b))) (bit-cases u k) in
-          rw (chosen-one (bit u 2) w (scaled m z c) s (off w 2 fz), chosen-one (bit u 1) y (scaled m z c) (put-by (bit u 2) s w) (off y 1 fy), chosen-one (bit u 0) x (scaled m z c) (put-by (bit u 1) (put-by (bit u 2) s w) y) (off x 0 fx), add-zero)
-        where
-          none-apart : above (pos 0) + below (pos 0) ≡ 0
-          none-apart = refl
+      go false e = add-zero _
 
   -- all eight, where no coefficient puts constant false in
   pub row-shares : (row : ℕ → ℤ) (x y z s : ℕ) → (x ≡ 0 → Free 0 row) → (y ≡ 0 → Free 1 row) → (z ≡ 0 → Free 2 row)

@@ -3,14 +3,16 @@ use mathlib.Core.Path.{_≡_}
 use mathlib.Core.List.{List, [], _∷_}
 use Prim.Native.Nat.{ℕ, zero, suc, _%_, _<_, _≤_}
 use lib.IntN.{ℤ, pos, negsuc}
+use lib.ListN.{length}
 use Rattle.rules.specs.Cells.{coefficient, above, below}
 use Rattle.rules.specs.Netlist.{variable, inverted, EveryVariable}
-use Rattle.rules.specs.Polynomial.{coefficient-at}
+use Rattle.rules.specs.Polynomial.{Term, coefficient-at}
 use Rattle.rules.specs.Steps.{times-record}
 use Rattle.rules.specs.Values.{bit}
 use Rattle.rules.specs.declared.records.Record.{Record}
 use Rattle.rules.specs.declared.records.Record.the-variants.{Gate, Cell}
 use Rattle.gates.specs.Rows.{row-of, times-row}
+use Rattle.gates.specs.declared.apart.Parts.{Parts}
 use Rattle.gates.specs.declared.apart.Variables.{Variables}
 
 -- a record and a row of coefficients over three variables make the same of every term
@@ -38,6 +40,14 @@ record-row (Cell byte x1 x2 x3) = coefficient byte
 unfoldable pub record-variables : Record → Variables
 record-variables (Gate x y) = record { x = variable x; y = variable y; z = 0 }
 record-variables (Cell byte x1 x2 x3) = record { x = x1; y = x2; z = x3 }
+
+-- the variables of a record brought apart
+abbrev pub variables-in : Parts → Variables
+variables-in q = record { x = q .x; y = q .y; z = q .z }
+
+-- a record makes so many terms of every term, before like ones meet
+abbrev pub Making : Record → ℕ → Type 0
+Making r made = (m : ℕ) (t : Term) → made ≡ length (times-record m r t)
 
 -- every coefficient from place n on lies from -b to b
 abbrev pub Near : ℕ → ℕ → (ℕ → ℤ) → Type 0

@@ -9,7 +9,9 @@ use Prim.Native.Nat.{ℕ, zero, suc, _+_, _-_, _*_, _/_, _%_, _^_, _<_}
 use lib.Dec.{eqb}
 use lib.IntN.{ℤ, pos, _+ℤ_}
 use lib.ListN.{getD}
-use Rattle.rules.specs.Each.{joined}
+use Rattle.rules.specs.Cells.{above, below}
+use Rattle.rules.specs.Each.{joined, sum}
+use Rattle.rules.specs.Occurrences.{present}
 use Rattle.rules.specs.Polynomial.{Term, Polynomial}
 use Rattle.rules.specs.Steps.{times-whole}
 use Rattle.rules.specs.Values.{bit}
@@ -21,6 +23,10 @@ row-of words u = getD words u (pos 0)
 -- two rows have the same eight coefficients
 abbrev pub Same : (ℕ → ℤ) → (ℕ → ℤ) → Type 0
 Same row other = (u : ℕ) → u < 8 → row u ≡ other u
+
+-- how many of the first n coefficients are not 0
+unfoldable pub not-zero : ℕ → (ℕ → ℤ) → ℕ
+not-zero n row = sum n (λ u. present (above (row u) + below (row u)))
 
 -- a term times the polynomial of eight coefficients over x, y and z
 unfoldable pub times-row : ℕ → (ℕ → ℤ) → ℕ → ℕ → ℕ → Term → Polynomial

@@ -1,4 +1,5 @@
 // A record brought apart: the coefficients of its polynomial, over variables of which none stands twice.
+use crate::making::not_zero;
 use crate::multipliers::plus;
 use rules::records::Record;
 ghost use mathlib.Core.Path.{_≡_};
@@ -8,7 +9,7 @@ ghost use lib.IntN.{pos, _+ℤ_};
 ghost use lib.ListN.{length, replicate};
 ghost use Rattle.rules.specs.Cells.{coefficient};
 ghost use Rattle.rules.specs.Netlist.{inverted, byte-of};
-ghost use Rattle.gates.specs.Apart.{and-row, record-row, record-variables, Near, Within, Apart};
+ghost use Rattle.gates.specs.Apart.{and-row, record-row, record-variables, Near, Within, variables-in, Making, Apart};
 ghost use Rattle.gates.specs.Rows.{row-of, Same, leaving, joining, joined-row, joined-variable};
 
 // Three distinct variables, or 0 where there is none.
@@ -16,6 +17,14 @@ pub struct Variables {
     pub x: usize,
     pub y: usize,
     pub z: usize,
+}
+
+// Such variables, and how many terms their record makes of one before like ones meet.
+pub struct Parts {
+    pub x: usize,
+    pub y: usize,
+    pub z: usize,
+    pub made: u32,
 }
 
 // Writes the coefficients of a product over two variables, in front of zeros.
@@ -189,16 +198,18 @@ fn join(row: &mut [i16], x: usize, y: usize, i: usize, j: usize) -> usize
     0
 }
 
-// Writes the coefficients of a record over three distinct variables, which it gives, where there are zeros.
-pub fn apart(r: Record, row: &mut [i16]) -> Variables
+// Writes the coefficients of a record over three distinct variables, which it gives, where there are zeros. The terms that it makes of one
+// are counted before a variable that stands twice is brought apart.
+pub fn apart(r: Record, row: &mut [i16]) -> Parts
     requires { ⌜ (now row ≡ replicate 8 (pos 0)) × (byte-of r ≤ 255) ⌝ }
-    ensures { λ q. ⌜ Apart r q (row-of (now (row .exit))) ⌝ }
+    ensures { λ q. ⌜ Apart r (variables-in q) (row-of (now (row .exit))) × Making r (q .made) ⌝ }
 {
     let q = put_record(r, row);
     leave_out(row, q.x, 0);
     leave_out(row, q.y, 1);
+    let made = not_zero(row);
     let y = join(row, q.x, q.y, 0, 1);
     let third = join(row, q.x, q.z, 0, 2);
     let z = join(row, y, third, 1, 2);
-    Variables { x: q.x, y, z }
+    Parts { x: q.x, y, z, made }
 }

@@ -13,10 +13,10 @@ use Rattle.rules.specs.Each.{every}
 use Rattle.rules.specs.Judging.{is-gate, set-width, roomy, held, completed, over, records}
 use Rattle.rules.specs.Occurrences.{with-occurrences}
 use Rattle.rules.specs.Polynomial.{Polynomial}
-use Rattle.rules.specs.Steps.{step, trail}
+use Rattle.rules.specs.Steps.{made, step, trail}
 use Rattle.rules.specs.declared.answers.StepRecord.{StepRecord}
 use Rattle.rules.specs.declared.counts.Counts.{Counts}
-use Rattle.rules.proofs.Trails.{length-trail}
+use Rattle.rules.proofs.Trails.{length-trail, trail-first, trail-next, length-records, records-at}
 use Rattle.demands.proofs.StepShape.{gate-here}
 use Rattle.words.specs.Stored.{decoded}
 use Rattle.judge.specs.Running.{Running, Turned, Finished}
@@ -24,21 +24,6 @@ use Rattle.judge.specs.declared.turn.Turn.{Turn}
 use Rattle.judge.specs.declared.run.Ran.{Ran}
 use Rattle.judge.proofs.Numbers.{with-again}
 use Rattle.judge.proofs.Held.{running-decoded, step-normal, Laid, moved}
-
-module _ (m : ℕ) (c : Counts) (table : List ℕ) where
-  -- a trail begins with its polynomial
-  pub trail-first : (p : Polynomial) (order : List ℕ) → getD (trail m c table p order) 0 [] ≡ p
-  unfolding trail
-  trail-first p [] = refl
-  trail-first p (v ∷ order) = refl
-
-  -- each polynomial of a trail is a step from the one before it
-  trail-next : (order : List ℕ) (p : Polynomial) (k : ℕ) → k < length order
-      → getD (trail m c table p order) (suc k) [] ≡ step m c table (getD order k 0) (getD (trail m c table p order) k [])
-  unfolding trail
-  trail-next [] p k h = absurd (omega arith)
-  trail-next (v ∷ order) p zero h = trail-first (step m c table v p) order
-  trail-next (v ∷ order) p (suc k) h = trail-next order (step m c table v p) k (omega arith)
 
 module _ (limit : ℕ) (list : List Polynomial) (j : ℕ) (h : j < length list) where
   -- a polynomial with room is one more
@@ -50,24 +35,6 @@ module _ (limit : ℕ) (list : List Polynomial) (j : ℕ) (h : j < length list) 
   pub roomy-full : limit < length (getD list j []) → roomy limit (drop j list) ≡ 0
   unfolding roomy
   roomy-full l = rw (drop-cons list j [] h, lt-ltb limit (length (getD list j [])) l)
-
--- a record of each step
-pub length-records : (order : List ℕ) (list : List Polynomial) → length order < length list → length (records order list) ≡ length order
-unfolding records
-length-records [] list h = refl
-length-records (v ∷ order) [] h = absurd (omega arith)
-length-records (v ∷ order) (p ∷ []) h = absurd (omega arith)
-length-records (v ∷ order) (p ∷ q ∷ list) h = ap suc (length-records order (q ∷ list) (omega arith))
-
--- that of step k has its gate and the terms after it
-record-at : (order : List ℕ) (list : List Polynomial) (k : ℕ) (none : StepRecord) → k < length order → length order < length list
-    → getD (records order list) k none ≡ record { gate = getD order k 0; terms = length (getD list (suc k) []) }
-unfolding records
-record-at [] list k none h l = absurd (omega arith)
-record-at (v ∷ order) [] k none h l = absurd (omega arith)
-record-at (v ∷ order) (p ∷ []) k none h l = absurd (omega arith)
-record-at (v ∷ order) (p ∷ q ∷ list) zero none h l = refl
-record-at (v ∷ order) (p ∷ q ∷ list) (suc k) none h l = record-at order (q ∷ list) k none (omega arith) (omega arith)
 
 module _ (new old : List StepRecord) (k : ℕ) where
   -- the first records written over a log leave it as long as it was
@@ -92,6 +59,10 @@ roomy-none limit list j h = rw (drop-of-length-le list {i = j} h)
 abbrev pub path : Counts → List ℕ → Polynomial → List ℕ → List Polynomial
 path c table first order = trail (2 ^ c .o) c table first order
 
+-- their records
+abbrev pub path-records : Counts → List ℕ → Polynomial → List ℕ → List StepRecord
+path-records c table first order = records (2 ^ c .o) c table order (path c table first order)
+
 -- after k steps, each with room: the polynomial is in the store, the log has k records over what stood there, and the occurrences are
 -- the polynomial's
 pub record Going (c : Counts) (table : List ℕ) (limit : ℕ) (order : List ℕ) (first : Polynomial) (store₀ scratch₀ : List ℕ) (log₀ : List StepRecord) (occurrences₀ : List ℕ)
@@ -102,7 +73,7 @@ pub record Going (c : Counts) (table : List ℕ) (limit : ℕ) (order : List ℕ
   pub scratch-lent : length scratch ≡ length scratch₀
   pub numbers-lent : length occurrences ≡ length occurrences₀
   pub room : roomy limit (path c table first order) ≡ suc k + roomy limit (drop (suc k) (path c table first order))
-  pub log-records : log ≡ over k (records order (path c table first order)) log₀
+  pub log-records : log ≡ over k (path-records c table first order) log₀
   pub numbers : occurrences ≡ with-occurrences c (getD (path c table first order) k []) occurrences₀
 
 module _ {c : Counts} {table : List ℕ} {limit : ℕ} {order : List ℕ} {first : Polynomial} {store₀ scratch₀ : List ℕ} {log₀ : List StepRecord} {occurrences₀ : List ℕ} where
@@ -132,9 +103,9 @@ module _ {c : Counts} {table : List ℕ} {limit : ℕ} {order : List ℕ} {first
     pub log-lent : length order ≤ length log₀ → length log ≡ length log₀
     log-lent l =
         let all : length (path c table first order) ≡ suc (length order) = length-trail (2 ^ c .o) c table first order in
-        let new : length (records order (path c table first order)) ≡ length order = length-records order (path c table first order) (omega arith) in
+        let new : length (path-records c table first order) ≡ length order = length-records (2 ^ c .o) c table order (path c table first order) (omega arith) in
         ap length (g .log-records)
-        ∙ length-over (records order (path c table first order)) log₀ k (omega (arith, g .within)) (omega (arith, g .within))
+        ∙ length-over (path-records c table first order) log₀ k (omega (arith, g .within)) (omega (arith, g .within))
 
     -- what a turn asks is there
     pub going-ready : k < length order → every (is-gate c) order ≡ true
@@ -145,7 +116,7 @@ module _ {c : Counts} {table : List ℕ} {limit : ℕ} {order : List ℕ} {first
 
     -- the polynomial held at the end, where the next has no room or there is none
     finish : roomy limit (path c table first order) ≡ suc k → (r : Ran) → r .fits ≡ ltb (length order) (suc k) → r .steps ≡ k → r .terms ≡ count
-        → Finished c limit order (path c table first order) store₀ scratch₀ log₀ occurrences₀ r store (replicate (length scratch₀) 0) log occurrences
+        → Finished c table limit order (path c table first order) store₀ scratch₀ log₀ occurrences₀ r store (replicate (length scratch₀) 0) log occurrences
     unfolding held completed
     finish e r fits steps counted =
         record {
@@ -162,7 +133,7 @@ module _ {c : Counts} {table : List ℕ} {limit : ℕ} {order : List ℕ} {first
 
     -- after the last step
     pub going-end : k ≡ length order → (r : Ran) → r .fits ≡ true → r .steps ≡ k → r .terms ≡ count
-        → Finished c limit order (path c table first order) store₀ scratch₀ log₀ occurrences₀ r store scratch log occurrences
+        → Finished c table limit order (path c table first order) store₀ scratch₀ log₀ occurrences₀ r store scratch log occurrences
     going-end e r fits steps counted =
         let clean : scratch ≡ replicate (length scratch₀) 0 = rw (g .scratch-lent) at (g .running .clean) in
         let last : roomy limit (drop (suc k) (path c table first order)) ≡ 0 =
@@ -170,15 +141,15 @@ module _ {c : Counts} {table : List ℕ} {limit : ℕ} {order : List ℕ} {first
         rw clean (finish (omega (arith, g .room)) r (fits ∙ sym (lt-ltb (length order) (suc k) (omega arith))) steps counted)
 
     module _ (h : k < length order) (every-gate : every (is-gate c) order ≡ true) {t : Turn} {store′ scratch′ occurrences′ : List ℕ}
-        (turned : Turned c limit count (getD order k 0) (step (2 ^ c .o) c table (getD order k 0) (decoded (set-width c) count store)) store scratch occurrences t store′ scratch′ occurrences′) where
+        (turned : Turned c limit count (getD order k 0) (made (2 ^ c .o) c table (getD order k 0) (decoded (set-width c) count store)) (step (2 ^ c .o) c table (getD order k 0) (decoded (set-width c) count store)) store scratch occurrences t store′ scratch′ occurrences′) where
       -- the turn is to the next polynomial
-      turned-next : Turned c limit count (getD order k 0) (getD (path c table first order) (suc k) []) store scratch occurrences t store′ scratch′ occurrences′
+      turned-next : Turned c limit count (getD order k 0) (made (2 ^ c .o) c table (getD order k 0) (getD (path c table first order) k [])) (getD (path c table first order) (suc k) []) store scratch occurrences t store′ scratch′ occurrences′
       turned-next =
           rw (trail-next (2 ^ c .o) c table order first k h, ← running-decoded (g .running)) turned
 
       -- a turn without room ends the run
       pub going-full : t .fits ≡ false → (r : Ran) → r .fits ≡ false → r .steps ≡ k → r .terms ≡ count
-          → Finished c limit order (path c table first order) store₀ scratch₀ log₀ occurrences₀ r store′ scratch′ log occurrences′
+          → Finished c table limit order (path c table first order) store₀ scratch₀ log₀ occurrences₀ r store′ scratch′ log occurrences′
       going-full full r fits steps counted =
           let t′ = turned-next in
           let over-limit : leb (length (getD (path c table first order) (suc k) [])) limit ≡ false = sym (t′ .fits) ∙ full in
@@ -191,7 +162,7 @@ module _ {c : Counts} {table : List ℕ} {limit : ℕ} {order : List ℕ} {first
 
       -- a turn with room is one step more
       pub going-more : length order ≤ length log₀ → t .fits ≡ true
-          → Going c table limit order first store₀ scratch₀ log₀ occurrences₀ (k + 1) (t .terms) store′ scratch′ (set log k (record { gate = t .gate; terms = t .terms })) occurrences′
+          → Going c table limit order first store₀ scratch₀ log₀ occurrences₀ (k + 1) (t .terms) store′ scratch′ (set log k (record { gate = t .gate; terms = t .terms; made = t .made })) occurrences′
       going-more long fits =
           let t′ = turned-next in
           let gate = gate-here c order every-gate k h in
@@ -203,10 +174,10 @@ module _ {c : Counts} {table : List ℕ} {limit : ℕ} {order : List ℕ} {first
           let more : k + 1 ≡ suc k = add-one k in
           let all : length (path c table first order) ≡ suc (length order) = length-trail (2 ^ c .o) c table first order in
           let few : length (getD (path c table first order) (suc k) []) ≤ limit = omega (arith, m .running .counted, m .running .few) in
-          let new : length (records order (path c table first order)) ≡ length order = length-records order (path c table first order) (omega arith) in
-          let none : StepRecord = record { gate = 0; terms = 0 } in
-          let here : record { gate = t .gate; terms = t .terms } ≡ getD (records order (path c table first order)) k none =
-          rw (record-at order (path c table first order) k none h (omega arith), ← m .running .counted, turned .gate) refl in
+          let new : length (path-records c table first order) ≡ length order = length-records (2 ^ c .o) c table order (path c table first order) (omega arith) in
+          let none : StepRecord = record { gate = 0; terms = 0; made = 0 } in
+          let here : record { gate = t .gate; terms = t .terms; made = t .made } ≡ getD (path-records c table first order) k none =
+          rw (records-at (2 ^ c .o) c table order (path c table first order) k none h (omega arith), ← m .running .counted, turned .gate, t′ .peak) refl in
           record {
             within = omega arith;
             running = rw more (m .running);
@@ -214,7 +185,7 @@ module _ {c : Counts} {table : List ℕ} {limit : ℕ} {order : List ℕ} {first
             scratch-lent = m .scratch-lent ∙ g .scratch-lent;
             numbers-lent = m .numbers-lent ∙ g .numbers-lent;
             room = rw more (omega (arith, g .room, roomy-next limit (path c table first order) (suc k) (omega arith) few));
-            log-records = rw (g .log-records, here) (over-next (records order (path c table first order)) log₀ k none (omega arith) (omega arith));
+            log-records = rw (g .log-records, here) (over-next (path-records c table first order) log₀ k none (omega arith) (omega arith));
             numbers =
                 rw more
                 (m .numbers ∙ ap (with-occurrences c (getD (path c table first order) (suc k) [])) (g .numbers)

@@ -122,18 +122,19 @@ pub step-numbers : (c : Counts) (table : List ℕ) (v : ℕ) (p : Polynomial) {l
 unfolding step
 step-numbers c table v p e s = rw (← e) s
 
-module _ {c : Counts} {limit count v r : ℕ} {q : Polynomial} {store scratch occurrences store′ scratch′ occurrences′ : List ℕ}
-    (s : Stepped (set-width c) limit q store scratch r store′ scratch′) (t : Turn) (gate : t .gate ≡ v)
+module _ {c : Counts} {limit count v peak r : ℕ} {q : Polynomial} {store scratch occurrences store′ scratch′ occurrences′ : List ℕ}
+    (s : Stepped (set-width c) limit q store scratch r store′ scratch′) (t : Turn) (gate : t .gate ≡ v) (told : t .made ≡ peak)
     (numbers : occurrences′ ≡ cond (leb (length q) limit) (with-occurrences c q occurrences) occurrences) where
   -- a step with room is a turn
-  pub turned-fits : r ≤ limit → t .fits ≡ true → t .terms ≡ r → Turned c limit count v q store scratch occurrences t store′ scratch′ occurrences′
+  pub turned-fits : r ≤ limit → t .fits ≡ true → t .terms ≡ r → Turned c limit count v peak q store scratch occurrences t store′ scratch′ occurrences′
   turned-fits few fits terms = go (leb (length q) limit) refl
     where
-      go : (b : Bool) → leb (length q) limit ≡ b → Turned c limit count v q store scratch occurrences t store′ scratch′ occurrences′
+      go : (b : Bool) → leb (length q) limit ≡ b → Turned c limit count v peak q store scratch occurrences t store′ scratch′ occurrences′
       go true e =
           record {
             fits = fits ∙ sym e;
             gate = gate;
+            peak = told;
             terms = rw e (terms ∙ (rw e at (s .counted)));
             stored = s .stored;
             cleared = s .cleared;
@@ -142,10 +143,10 @@ module _ {c : Counts} {limit count v r : ℕ} {q : Polynomial} {store scratch oc
       go false e = let n : r ≡ limit + 1 = rw e at (s .counted) in absurd (omega arith)
 
   -- so is one without, which leaves the terms held before
-  pub turned-full : limit < r → t .fits ≡ false → t .terms ≡ count → Turned c limit count v q store scratch occurrences t store′ scratch′ occurrences′
+  pub turned-full : limit < r → t .fits ≡ false → t .terms ≡ count → Turned c limit count v peak q store scratch occurrences t store′ scratch′ occurrences′
   turned-full many fits terms = go (leb (length q) limit) refl
     where
-      go : (b : Bool) → leb (length q) limit ≡ b → Turned c limit count v q store scratch occurrences t store′ scratch′ occurrences′
+      go : (b : Bool) → leb (length q) limit ≡ b → Turned c limit count v peak q store scratch occurrences t store′ scratch′ occurrences′
       go true e =
           let n : r ≡ length q = rw e at (s .counted) in
           absurd (omega (arith, leb-true (length q) limit e))
@@ -153,6 +154,7 @@ module _ {c : Counts} {limit count v r : ℕ} {q : Polynomial} {store scratch oc
           record {
             fits = fits ∙ sym e;
             gate = gate;
+            peak = told;
             terms = rw e terms;
             stored = s .stored;
             cleared = s .cleared;
@@ -199,11 +201,11 @@ laid {c} {table} {limit} {count} {p} {store} {scratch} {occurrences} {store′} 
     }
 
 -- a turn with room takes the run to its polynomial
-pub moved : {c : Counts} {table : List ℕ} {limit count v : ℕ} {p q : Polynomial} {store scratch occurrences store′ scratch′ occurrences′ : List ℕ} {t : Turn}
+pub moved : {c : Counts} {table : List ℕ} {limit count v peak : ℕ} {p q : Polynomial} {store scratch occurrences store′ scratch′ occurrences′ : List ℕ} {t : Turn}
     → Running c table limit count p store scratch occurrences → Normal c q
-    → Turned c limit count v q store scratch occurrences t store′ scratch′ occurrences′ → t .fits ≡ true
+    → Turned c limit count v peak q store scratch occurrences t store′ scratch′ occurrences′ → t .fits ≡ true
     → Laid c table limit (t .terms) q store scratch occurrences store′ scratch′ occurrences′
-moved {c} {table} {limit} {count} {v} {p} {q} {store} {scratch} {occurrences} {store′} {scratch′} {occurrences′} {t} r normal turned fits =
+moved {c} {table} {limit} {count} {v} {peak} {p} {q} {store} {scratch} {occurrences} {store′} {scratch′} {occurrences′} {t} r normal turned fits =
     let fit : leb (length q) limit ≡ true = sym (turned .fits) ∙ fits in
     let terms : t .terms ≡ length q = rw fit at (turned .terms) in
     let stored : store′ ≡ padded (length store) (polynomial-words (set-width c) q) = rw fit at (turned .stored) in

@@ -10,7 +10,7 @@ use lib.ListN.{length}
 use borrow.Author.Tests.{ltb-false, leb-true, leb-false, not-false}
 use Rattle.rules.specs.Each.{every}
 use Rattle.rules.specs.Judging.{misfits, Inputs, Judged, is-gate, set-width, term-width, kind-wrong, order-wrong, most-made, scratch-needed, lent-short, judge-checks, ended}
-use Rattle.rules.specs.Judging.{checks, refusal, polynomials, judging, store-after, scratch-after, log-after, occurrences-after, kept-or}
+use Rattle.rules.specs.Judging.{checks, refusal, polynomials, judging, store-after, scratch-after, recorded, log-after, occurrences-after, kept-or}
 use Rattle.rules.specs.Limits.{most-steps, terms-wrong, steps-wrong}
 use Rattle.rules.specs.Netlist.{counts-wrong, table-short, table-unsound}
 use Rattle.rules.specs.Product.{kind-of, kind-unknown}
@@ -134,7 +134,7 @@ module _ (c : Counts) (table : List ℕ) (kind limit : ℕ) (order store scratch
     -- nothing refused: what is decided
     judged-decided : refusal input ≡ 0 → {r : Answer} {store′ scratch′ : List ℕ} {log′ : List StepRecord} {occurrences′ : List ℕ}
         → Decided c table kind limit order store scratch log occurrences r store′ scratch′ log′ occurrences′ → Judged input r store′ scratch′ log′ occurrences′
-    unfolding judging store-after scratch-after log-after occurrences-after refuse-or kept-or polynomials
+    unfolding judging store-after scratch-after recorded log-after occurrences-after refuse-or kept-or polynomials
     judged-decided e d =
         record {
           said = rw e (d .said);
@@ -189,7 +189,7 @@ module _ (c : Counts) (table : List ℕ) (kind limit : ℕ) (order store scratch
         run-ready = (start-opened .running, passed .gates-only, passed .log-room)
 
         module _ {ran : Ran} {store₂ scratch₂ : List ℕ} {log₂ : List StepRecord} {occurrences₂ : List ℕ}
-            (f : Finished c limit order (path c table (decoded (set-width c) (o .held) store₁) order) store₁ scratch₁ log occurrences₁ ran store₂ scratch₂ log₂ occurrences₂) where
+            (f : Finished c table limit order (path c table (decoded (set-width c) (o .held) store₁) order) store₁ scratch₁ log occurrences₁ ran store₂ scratch₂ log₂ occurrences₂) where
           -- what the answer after it asks is there
           pub ran-closing : Closing c table kind ran store₂
           ran-closing = closing passed start-opened f

@@ -14,6 +14,7 @@ use Rattle.rules.specs.Polynomial.{Polynomial, Below}
 use Rattle.rules.specs.declared.counts.Counts.{Counts}
 use Rattle.rules.proofs.Indices.{length-listed}
 use Rattle.demands.proofs.Absent.{Absent}
+use Rattle.demands.proofs.Entries.{entry-at}
 use Rattle.tally.specs.Marks.{Numbered, Moved, Renumbered}
 use Rattle.tally.proofs.Numbering.{moved-on}
 
@@ -46,6 +47,10 @@ module _ (c : Counts) (p : Polynomial) where
   pub with-front : (words : List ℕ) → words ≡ with-occurrences c p words → take (c .m + 1) words ≡ listed (c .m + 1) (occurring p)
   unfolding with-occurrences occurrences
   with-front words e = ap (λ (x : List ℕ). take (c .m + 1) x) e ∙ take-at (occurrences c p) (drop (c .m + 1) words) (c .m + 1) length-occurrences
+
+  -- an entry is how many terms count there
+  pub with-entry : (words : List ℕ) → words ≡ with-occurrences c p words → (v : ℕ) → v ≤ c .m → getD words v 0 ≡ occurring p v
+  with-entry words e v l = ap (λ (x : List ℕ). getD x v 0) e ∙ entry-at c p words v l
 
   -- other occurrences take their place
   pub with-again : (q : Polynomial) (words : List ℕ) → with-occurrences c q (with-occurrences c p words) ≡ with-occurrences c q words

@@ -30,7 +30,7 @@ use Rattle.words.proofs.Stored.{stride-le}
 use Rattle.netlist.proofs.Facts.{facts}
 use Rattle.tally.specs.Marks.{Counting}
 use Rattle.rules.proofs.Bits.{bit-first}
-use Rattle.rules.proofs.Trails.{length-run}
+use Rattle.rules.proofs.Trails.{length-run, trail-first}
 use Rattle.demands.proofs.Absent.{Absent, false-absent}
 use Rattle.demands.proofs.StepShape.{run-shape}
 use Rattle.demands.proofs.TermLimit.{roomy-le}
@@ -41,12 +41,17 @@ use Rattle.judge.specs.Deciding.{Block, Passed, Begun, Closing, Decided,
 use Rattle.judge.specs.declared.run.Ran.{Ran}
 use Rattle.judge.proofs.Numbers.{below-numbered, with-again}
 use Rattle.judge.proofs.Held.{set-room, decoded-held, words-fit, running-decoded, Normal, Laid, laid}
-use Rattle.judge.proofs.Going.{path, trail-first, roomy-full, roomy-next}
+use Rattle.judge.proofs.Going.{path, roomy-full, roomy-next}
+
+-- the modulus of the run is that of O bits
+modulus-outputs : (kind : Kind) (c : Counts) → c .o ≡ outputs-of kind (operand-width kind c) → modulus kind c ≡ 2 ^ c .o
+unfolding modulus
+modulus-outputs kind c e = ap (λ (l : ℕ). 2 ^ l) (sym e)
 
 -- the polynomials of the run, with the modulus that O gives
 run-path : (kind : Kind) (c : Counts) (table order : List ℕ) → c .o ≡ outputs-of kind (operand-width kind c) → run kind c table order ≡ path c table (start kind c table) order
-unfolding run modulus
-run-path kind c table order e = ap (λ (l : ℕ). trail (2 ^ l) c table (start kind c table) order) (sym e)
+unfolding run
+run-path kind c table order e = ap (λ (m : ℕ). trail m c table (start kind c table) order) (modulus-outputs kind c e)
 
 -- one more than the number before
 pred-more : (n : ℕ) → 0 < n → pred n + 1 ≡ n
@@ -202,8 +207,11 @@ module _ {c : Counts} {table : List ℕ} {kind limit : ℕ} {order store scratch
   abbrev all : List Polynomial
   all = run (kind-of kind) c table order
 
+  outputs-fit : c .o ≡ outputs-of (kind-of kind) (operand-width (kind-of kind) c)
+  outputs-fit = fits (kind-of kind) c (p .block .sound .fitting .counts) (p .block .fitting) .outputs
+
   all-path : all ≡ path c table first order
-  all-path = run-path (kind-of kind) c table order (fits (kind-of kind) c (p .block .sound .fitting .counts) (p .block .fitting) .outputs)
+  all-path = run-path (kind-of kind) c table order outputs-fit
 
   -- the run's first polynomial is the start
   all-first : (getD all 0 [] ≡ first) × (0 < length all)
@@ -233,9 +241,9 @@ module _ {c : Counts} {table : List ℕ} {kind limit : ℕ} {order store scratch
 
   module _ {r : ℕ} {store₁ scratch₁ occurrences₁ : List ℕ} (o : Opened c table limit first store scratch occurrences r store₁ scratch₁ occurrences₁)
       {log : List StepRecord} {ran : Ran} {store₂ scratch₂ : List ℕ} {log₂ : List StepRecord} {occurrences₂ : List ℕ}
-      (f : Finished c limit order (path c table (decoded (set-width c) r store₁) order) store₁ scratch₁ log occurrences₁ ran store₂ scratch₂ log₂ occurrences₂) where
+      (f : Finished c table limit order (path c table (decoded (set-width c) r store₁) order) store₁ scratch₁ log occurrences₁ ran store₂ scratch₂ log₂ occurrences₂) where
     -- the run was that of the rules
-    finished : Finished c limit order all store₁ scratch₁ log occurrences₁ ran store₂ scratch₂ log₂ occurrences₂
+    finished : Finished c table limit order all store₁ scratch₁ log occurrences₁ ran store₂ scratch₂ log₂ occurrences₂
     finished = rw (all-path, ← o .same) f
 
     -- the start had room
@@ -254,7 +262,7 @@ module _ {c : Counts} {table : List ℕ} {kind limit : ℕ} {order store scratch
           said = said;
           store-words = rw (o .store-lent) at (g .store-words);
           scratch-words = rw (o .scratch-lent) at (g .scratch-words);
-          log-records = g .log-records;
+          log-records = rw (modulus-outputs (kind-of kind) c outputs-fit) (g .log-records);
           occurrence-words = g .occurrence-words ∙ ap (with-occurrences c (held limit all)) (o .numbers) ∙ with-again c first (held limit all) occurrences;
         }
 

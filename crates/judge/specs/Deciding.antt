@@ -12,7 +12,7 @@ use Rattle.rules.specs.Occurrences.{with-occurrences}
 use Rattle.rules.specs.Polynomial.{Polynomial}
 use Rattle.rules.specs.Product.{kind-of}
 use Rattle.rules.specs.Says.{Says, refuses, answers, first, says}
-use Rattle.rules.specs.Steps.{start, run}
+use Rattle.rules.specs.Steps.{modulus, start, run}
 use Rattle.rules.specs.declared.answers.Answer.{Answer}
 use Rattle.rules.specs.declared.answers.StepRecord.{StepRecord}
 use Rattle.rules.specs.declared.counts.Counts.{Counts}
@@ -88,12 +88,12 @@ pub record Decided (c : Counts) (table : List ℕ) (kind limit : ℕ) (order sto
   pub store-words :
       store′ ≡ padded (length store) (polynomial-words (set-width c) (held limit (run (kind-of kind) c table order)))
   pub scratch-words : scratch′ ≡ replicate (length scratch) 0
-  pub log-records : log′ ≡ over (completed limit (run (kind-of kind) c table order)) (records order (run (kind-of kind) c table order)) log
+  pub log-records : log′ ≡ over (completed limit (run (kind-of kind) c table order)) (records (modulus (kind-of kind) c) c table order (run (kind-of kind) c table order)) log
   pub occurrence-words : occurrences′ ≡ with-occurrences c (held limit (run (kind-of kind) c table order)) occurrences
 
 -- a log for the most variables of the desk program, with nothing in it
 abbrev pub blank-log : List StepRecord
-blank-log = replicate 127 (record { gate = 0; terms = 0 })
+blank-log = replicate 127 (record { gate = 0; terms = 0; made = 0 })
 
 -- the permitted outcome of the judge, but for the log
 pub record Unlogged (x : Inputs) (r : Answer) (store scratch occurrences : List ℕ) : Type 0 where

@@ -32,19 +32,20 @@ pub record Running (c : Counts) (table : List ℕ) (limit count : ℕ) (p : Poly
   pub numbered : Numbered (c .m + 1) p
   pub numbers : occurrences ≡ with-occurrences c p occurrences
 
--- what a turn of gate v to the polynomial q leaves: where q has at most `limit` terms, their number and words, and its occurrences; else
--- all as it was
-pub record Turned (c : Counts) (limit count v : ℕ) (q : Polynomial) (store scratch occurrences : List ℕ) (r : Turn) (store′ scratch′ occurrences′ : List ℕ) : Type 0 where
+-- what a turn of gate v to the polynomial q, gathered from so many terms, leaves: where q has at most `limit` terms, their number and words,
+-- and its occurrences; else all as it was
+pub record Turned (c : Counts) (limit count v made : ℕ) (q : Polynomial) (store scratch occurrences : List ℕ) (r : Turn) (store′ scratch′ occurrences′ : List ℕ) : Type 0 where
   pub fits : r .fits ≡ leb (length q) limit
   pub gate : r .gate ≡ v
   pub terms : r .terms ≡ cond (leb (length q) limit) (length q) count
+  pub peak : r .made ≡ made
   pub stored : store′ ≡ cond (leb (length q) limit) (padded (length store) (polynomial-words (set-width c) q)) store
   pub cleared : scratch′ ≡ replicate (length scratch) 0
   pub numbers : occurrences′ ≡ cond (leb (length q) limit) (with-occurrences c q occurrences) occurrences
 
 -- what a run through the polynomials leaves, by the rules: whether all had room, the steps completed, the polynomial held, the log,
 -- and the occurrences of that polynomial
-pub record Finished (c : Counts) (limit : ℕ) (order : List ℕ) (polynomials : List Polynomial) (store scratch : List ℕ) (log : List StepRecord) (occurrences : List ℕ)
+pub record Finished (c : Counts) (table : List ℕ) (limit : ℕ) (order : List ℕ) (polynomials : List Polynomial) (store scratch : List ℕ) (log : List StepRecord) (occurrences : List ℕ)
     (r : Ran) (store′ scratch′ : List ℕ) (log′ : List StepRecord) (occurrences′ : List ℕ) : Type 0 where
   pub fits : r .fits ≡ ltb (length order) (roomy limit polynomials)
   pub steps : r .steps ≡ completed limit polynomials
@@ -53,5 +54,5 @@ pub record Finished (c : Counts) (limit : ℕ) (order : List ℕ) (polynomials :
   pub falls : Below (2 ^ (c .m + 1)) (held limit polynomials)
   pub store-words : store′ ≡ padded (length store) (polynomial-words (set-width c) (held limit polynomials))
   pub scratch-words : scratch′ ≡ replicate (length scratch) 0
-  pub log-records : log′ ≡ over (completed limit polynomials) (records order polynomials) log
+  pub log-records : log′ ≡ over (completed limit polynomials) (records (2 ^ c .o) c table order polynomials) log
   pub occurrence-words : occurrences′ ≡ with-occurrences c (held limit polynomials) occurrences

@@ -33,7 +33,7 @@ pub fn run(
     occurrences: &mut [u32],
 ) -> Ran
     requires { ⌜ Running c (now table) limit held (decoded (set-width c) held (now store)) (now store) (now scratch) (now occurrences) × (every (is-gate c) (now order) ≡ true) × (length (now order) ≤ length (now log)) ⌝ }
-    ensures { λ r. ⌜ Finished c limit (now (order .entry)) (trail (2 ^ c .o) c (now (table .entry)) (decoded (set-width c) held (now (store .entry))) (now (order .entry))) (now (store .entry)) (now (scratch .entry)) (now (log .entry)) (now (occurrences .entry)) r (now (store .exit)) (now (scratch .exit)) (now (log .exit)) (now (occurrences .exit)) ⌝ }
+    ensures { λ r. ⌜ Finished c (now (table .entry)) limit (now (order .entry)) (trail (2 ^ c .o) c (now (table .entry)) (decoded (set-width c) held (now (store .entry))) (now (order .entry))) (now (store .entry)) (now (scratch .entry)) (now (log .entry)) (now (occurrences .entry)) r (now (store .exit)) (now (scratch .exit)) (now (log .exit)) (now (occurrences .exit)) ⌝ }
 {
     let mut left = held;
     let mut k: usize = 0;
@@ -47,7 +47,7 @@ pub fn run(
                 terms: left,
             };
         }
-        put_record(log, k, t.gate, t.terms as u32);
+        put_record(log, k, t.gate, t.terms as u32, t.made);
         left = t.terms;
         k += 1;
     }

@@ -18,7 +18,11 @@ pub fn judge_unlogged(
 ) -> Answer
     ensures { λ r. ⌜ Unlogged (handed c (now (table .entry)) kind limit (now (order .entry)) (now (store .entry)) (now (scratch .entry)) blank-log (now (occurrences .entry))) r (now (store .exit)) (now (scratch .exit)) (now (occurrences .exit)) ⌝ }
 {
-    let mut log = [StepRecord { gate: 0, terms: 0 }; 127];
+    let mut log = [StepRecord {
+        gate: 0,
+        terms: 0,
+        made: 0,
+    }; 127];
     judge(
         c,
         table,

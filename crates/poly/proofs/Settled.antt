@@ -22,7 +22,7 @@ use Rattle.rules.proofs.Bits.{bit-out}
 use Rattle.words.specs.Stored.{decoded}
 use Rattle.words.proofs.Stored.{length-decoded, decoded-drop, stride-le}
 use Rattle.words.proofs.Encoded.{zeros-later, length-polynomial-words, polynomial-words-append, words-decoded, zeros-behind}
-use Rattle.gates.specs.Apart.{Apart}
+use Rattle.gates.specs.Apart.{Making, Apart}
 use Rattle.gates.specs.Rows.{row-of}
 use Rattle.weave.specs.Seeking.{Last, Uses}
 use Rattle.weave.specs.Weaving.{old-terms, Joined}
@@ -31,7 +31,7 @@ use Rattle.weave.proofs.Growing.{behind-limit, kept-behind}
 use Rattle.weave.proofs.Places.{set-below}
 use Rattle.tally.specs.Marks.{Renumbered}
 use Rattle.tally.proofs.Moving.{moved-same}
-use Rattle.poly.specs.Stepping.{Prepared, Both, Together, Ready, Stepped}
+use Rattle.poly.specs.Stepping.{Prepared, Both, Together, Ready, Stepped, Each}
 use Rattle.gates.specs.declared.apart.Variables.{Variables}
 use Rattle.weave.specs.declared.weaving.Parts.{Parts}
 use Rattle.weave.specs.declared.weaving.Sizes.{Sizes}
@@ -234,6 +234,19 @@ stepped-same w l v r limit held store scratch h end o z =
       counted = rw (e, t) (sym (length-decoded w held store));
       stored = rw (e, t) (h .kept);
       cleared = h .clean;
+    }
+
+-- nothing is made of one where none holds v
+pub each-none : (v : ℕ) (r : Record) (p : Polynomial) (end : ℕ) → Last v p end → end ≡ 0 → Each v r p 0
+each-none v r p end o z =
+    record { some = λ i l b. absurd (omega (arith, rw z at (o .free) i (omega arith) l)); none = λ free. refl }
+
+-- what the record makes, where some term does
+pub each-some : (v : ℕ) (r : Record) (p : Polynomial) (end made : ℕ) → Last v p end → (end ≡ 0 → ⊥) → Making r made → Each v r p made
+each-some v r p end made o z making =
+    record {
+      some = λ i l b. making;
+      none = λ free. absurd (omega (arith, free (end - 1) (omega arith) (omega (arith, o .high)), o .held (omega arith)));
     }
 
 -- a variable of a set that is below a power of two

@@ -5,18 +5,19 @@ use mathlib.Core.List.{List}
 use Prim.Native.Nat.{ℕ, _+_, _-_, _*_, _^_, _<_, _≤_}
 use lib.Dec.{leb, ltb}
 use lib.IntN.{ℤ}
-use lib.ListN.{length, take, drop, replicate}
+use lib.ListN.{length, getD, take, drop, replicate}
 use Rattle.rules.specs.Judging.{polynomial-words, padded}
 use Rattle.rules.specs.Netlist.{EveryVariable, byte-of}
 use Rattle.rules.specs.Polynomial.{Polynomial, Below, Coefficients}
+use Rattle.rules.specs.Values.{bit}
 use Rattle.rules.specs.declared.records.Record.{Record}
 use Rattle.words.specs.Numbers.{num, words-at}
 use Rattle.words.specs.Stored.{decoded}
-use Rattle.weave.specs.Seeking.{Last}
+use Rattle.weave.specs.Seeking.{Free, Last}
 use Rattle.tally.specs.Marks.{Numbered}
 use Rattle.weave.specs.Weaving.{Task, old-terms, new-terms}
 use Rattle.weave.specs.declared.weaving.Sizes.{Sizes}
-use Rattle.gates.specs.Apart.{Apart}
+use Rattle.gates.specs.Apart.{Making, Apart}
 use Rattle.gates.specs.Rows.{row-of}
 use Rattle.gates.specs.declared.apart.Variables.{Variables}
 use Rattle.merge.specs.declared.streams.Gate.{Gate}
@@ -101,6 +102,11 @@ pub record Numberable (lent v : ℕ) (r : Record) (p : Polynomial) : Type 0 wher
   pub v-in : v < lent
   pub low : EveryVariable (λ u. u < v) r
   pub numbered : Numbered lent p
+
+-- what the record of v makes of one term, where some term of p holds v; else 0
+pub record Each (v : ℕ) (r : Record) (p : Polynomial) (each : ℕ) : Type 0 where
+  pub some : (i : ℕ) → i < length p → bit (getD p i (0, 0) .1) v ≡ 1 → Making r each
+  pub none : Free v p 0 (length p) → each ≡ 0
 
 -- what a step to the polynomial q leaves: where q has at most `limit` terms, their number, and the words of q in the store; else
 -- limit + 1, and the store as it was. Scratch is zeros.

@@ -5,7 +5,7 @@ ghost use Rattle.rules.specs.Polynomial.{Below, gather};
 ghost use Rattle.rules.specs.Steps.{all-replaced};
 ghost use Rattle.words.specs.Stored.{decoded};
 ghost use Rattle.weave.specs.Written.{Gathered, Kept};
-ghost use Rattle.poly.specs.Stepping.{Fit, Ready, Prepared, Numberable, Stepped};
+ghost use Rattle.poly.specs.Stepping.{Fit, Ready, Prepared, Numberable, Stepped, Each};
 ghost use Rattle.tally.specs.Marks.{Renumbered};
 ghost use Rattle.weave.specs.Weaving.{holding};
 use gates::apart::Variables;
@@ -85,6 +85,12 @@ fn replace(
     held
 }
 
+// How many terms a store then holds, and how many the gate's record makes of one before like ones meet, or 0 where no term holds the gate.
+pub struct Outcome {
+    pub held: usize,
+    pub each: u32,
+}
+
 // The step of gate v with the record r in the store, w words to a set and l bits to a coefficient: how many terms it then holds;
 // limit + 1, and the store as it was, if there would be more than `limit`. Scratch is zeros before and after, and the numbers go on with
 // the terms held.
@@ -98,15 +104,16 @@ pub fn step(
     store: &mut [u64],
     scratch: &mut [u64],
     numbers: &mut [u32],
-) -> usize
+) -> Outcome
     requires { ⌜ Ready w l v r limit held (now store) (now scratch) × Numberable (length (now numbers)) v r (decoded w held (now store)) ⌝ }
-    ensures { λ o. ⌜ Stepped w limit (gather (2 ^ l) (all-replaced (2 ^ l) v r (decoded w held (now (store .entry))))) (now (store .entry)) (now (scratch .entry)) o (now (store .exit)) (now (scratch .exit))
-        × Renumbered limit (decoded w held (now (store .entry))) (gather (2 ^ l) (all-replaced (2 ^ l) v r (decoded w held (now (store .entry))))) (now (numbers .entry)) (now (numbers .exit)) ⌝ }
+    ensures { λ o. ⌜ Stepped w limit (gather (2 ^ l) (all-replaced (2 ^ l) v r (decoded w held (now (store .entry))))) (now (store .entry)) (now (scratch .entry)) (o .held) (now (store .exit)) (now (scratch .exit))
+        × Renumbered limit (decoded w held (now (store .entry))) (gather (2 ^ l) (all-replaced (2 ^ l) v r (decoded w held (now (store .entry))))) (now (numbers .entry)) (now (numbers .exit))
+        × Each v r (decoded w held (now (store .entry))) (o .each) ⌝ }
 {
     let gate = v as usize;
     let end = weave::seeking::last_holding(store, held, w, gate);
     if end == 0 {
-        return held;
+        return Outcome { held, each: 0 };
     }
     let mut row = [0i16; 8];
     let q = gates::apart::apart(r, &mut row);
@@ -119,5 +126,9 @@ pub fn step(
         l,
         k,
     };
-    replace(store, held, w, g, r, &row, end, scratch, limit, numbers)
+    let left = replace(store, held, w, g, r, &row, end, scratch, limit, numbers);
+    Outcome {
+        held: left,
+        each: q.made,
+    }
 }

@@ -14,6 +14,7 @@ pub mod Terms
 pub mod Gathered
 pub mod AllSets
 pub mod Occurring
+pub mod Counted
 pub mod Trails
 -- outcomes
 pub mod OneOutcome

@@ -1,12 +1,13 @@
 -- Occurrences add up over lists.
-use mathlib.Core.Path.{_≡_, sym}
+use mathlib.Core.Path.{_≡_, refl, sym}
 use mathlib.Core.List.{[], _∷_, _++_}
-use Prim.Native.Nat.{ℕ, zero, suc, _+_, _*_, _≤_}
+use Prim.Native.Nat.{ℕ, zero, suc, _+_, _*_, _<_, _≤_}
 use native.Mathlib.Nat.{add-assoc, zero-add, zero-mul, one-mul}
 use native.Mathlib.Omega.{arith}
 use lib.ListN.{length}
 use Rattle.rules.specs.Occurrences.{counts-at, present, occurring}
 use Rattle.rules.specs.Polynomial.{Polynomial, keep}
+use Rattle.rules.specs.Values.{bit}
 use Rattle.rules.proofs.Bits.{bit-digit}
 
 -- a coefficient is there once or not at all
@@ -14,6 +15,12 @@ pub present-most : (c : ℕ) → present c ≤ 1
 unfolding present
 present-most zero = omega arith
 present-most (suc c) = omega arith
+
+-- at a variable a set counts where it holds it
+pub counts-bit : (s v : ℕ) → 0 < v → counts-at s v ≡ bit s v
+unfolding counts-at
+counts-bit s zero l = absurd (omega arith)
+counts-bit s (suc v) l = refl
 
 -- a set counts at most once
 counts-most : (s v : ℕ) → counts-at s v ≤ 1

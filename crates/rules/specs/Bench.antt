@@ -17,8 +17,8 @@ use Rattle.rules.specs.Product.{kind-of, kind-unknown, complement, adds,
 use Rattle.rules.specs.Occurrences.{counts-at, occurring, occurrences, with-occurrences}
 use Rattle.rules.specs.Polynomial.{keep, place, insert, gather, minus, with-variable, times-variable, times-chosen, times-literal}
 use Rattle.rules.specs.Cells.{lies-in, evenly, evens, odds, coefficient, above, below, scaled}
-use Rattle.rules.specs.Steps.{modulus, start-terms, start, where-held, times-subset, times-whole, times-record, replaced, all-replaced, step, trail, run}
-use Rattle.rules.specs.Judging.{Inputs, set-width, term-width, misfits, kind-wrong, is-gate, order-wrong, most-made, scratch-needed, lent-short, judge-checks, roomy, held, completed, inputs-only, sooner, soonest, shown-for, differs, ended, verdict, term-words, polynomial-words, padded, records, over, kept-or, checks, refusal, polynomials, judging, store-after, scratch-after, log-after, occurrences-after}
+use Rattle.rules.specs.Steps.{modulus, start-terms, start, where-held, times-subset, times-whole, times-record, replaced, all-replaced, made, step, trail, run}
+use Rattle.rules.specs.Judging.{Inputs, set-width, term-width, misfits, kind-wrong, is-gate, order-wrong, most-made, scratch-needed, lent-short, judge-checks, roomy, held, completed, inputs-only, sooner, soonest, shown-for, differs, ended, verdict, term-words, polynomial-words, padded, records, over, kept-or, checks, refusal, polynomials, judging, store-after, scratch-after, recorded, log-after, occurrences-after}
 use Rattle.rules.specs.Text.{digits, decimal}
 use Rattle.rules.specs.Reading.{Netlist, netlist, refused, digit, leading-digits, value-from, well-written, behind, with-numbers, and-then, field, fields, word, header-line, tested, input-line, output-line, gate-line, lines, end-read, gates-read, outputs-read, inputs-read, counts-read, counts-of, header-read, reading}
 use Rattle.rules.specs.declared.answers.StepRecord.{StepRecord}
@@ -37,10 +37,12 @@ same [] (y ∷ ys) = false
 same (x ∷ xs) [] = false
 same (x ∷ xs) (y ∷ ys) = eqb x y && same xs ys
 
--- the records have these gates and these terms
-unfoldable pub same-records : List ℕ → List ℕ → List StepRecord → Bool
-same-records gates terms log =
-    same gates (map (λ (r : StepRecord). r .gate) log) && same terms (map (λ (r : StepRecord). r .terms) log)
+-- the records have these gates, these terms after the step and these before gathering
+unfoldable pub same-records : List ℕ → List ℕ → List ℕ → List StepRecord → Bool
+same-records gates terms made log =
+    same gates (map (λ (r : StepRecord). r .gate) log)
+    && same terms (map (λ (r : StepRecord). r .terms) log)
+    && same made (map (λ (r : StepRecord). r .made) log)
 
 -- the same answer with the same values, or the same refusal
 unfoldable pub same-says : Says → Says → Bool
@@ -62,9 +64,10 @@ pub record Row : Type 0 where
   pub store : List ℕ
   -- the occurrences, up to the last that is not 0
   pub numbers : List ℕ
-  -- the gates and terms of the log's records, one for each step completed
+  -- the gates and the terms of the log's records, after the step and before gathering, one for each step completed
   pub gates : List ℕ
   pub terms : List ℕ
+  pub made : List ℕ
 
 -- what the buffers that a row lends hold in every word; each has one word or record more than is needed
 abbrev pub lent : ℕ
@@ -81,7 +84,7 @@ handed row c words =
       order = row .order;
       store = replicate (suc (row .limit * (c .m / 64 + 2))) lent;
       scratch = replicate (suc (most-made (c .records) * row .limit * (c .m / 64 + 2))) lent;
-      log = replicate (suc (length (row .order))) (record { gate = lent; terms = lent });
+      log = replicate (suc (length (row .order))) (record { gate = lent; terms = lent; made = lent });
       occurrences = replicate (suc (c .m + 1)) lent;
     }
 
@@ -94,13 +97,13 @@ unfoldable pub words-right : Row → Inputs → Says → Bool
 words-right row x (answers k numbers) =
     same (filled (row .store) 0 (x .store)) (store-after x)
     && same (filled [] 0 (x .scratch)) (scratch-after x)
-    && same-records (filled (row .gates) lent (x .log)) (filled (row .terms) lent (x .log)) (log-after x)
+    && same-records (filled (row .gates) lent (x .log)) (filled (row .terms) lent (x .log)) (filled (row .made) lent (x .log)) (log-after x)
     && same (padded (x .counts .m + 1) (row .numbers) ++ lent ∷ []) (occurrences-after x)
     && eqb (row .begins) (length (start (kind-of (x .kind)) (x .counts) (x .table)))
 words-right row x (refuses k) =
     same (filled [] lent (x .store)) (store-after x)
     && same (filled [] lent (x .scratch)) (scratch-after x)
-    && same-records (filled [] lent (x .log)) (filled [] lent (x .log)) (log-after x)
+    && same-records (filled [] lent (x .log)) (filled [] lent (x .log)) (filled [] lent (x .log)) (log-after x)
     && same (filled [] lent (x .occurrences)) (occurrences-after x)
 
 -- the judgement of what is handed over is the row's
@@ -119,10 +122,10 @@ unfolding same same-records same-says handed filled words-right judged-right rea
     counts-wrong table-short table-unsound width bit turned literal-value input-values gate-value values-to values shown
     kind-of kind-unknown complement adds shares operand-width addend-width outputs-of operand negative size modulo product wanted-word xor ones onesIn
     keep place insert gather minus with-variable times-variable times-literal
-    modulus below-zero product-term addend-term specification start-terms start where-held replaced all-replaced step trail run
+    modulus below-zero product-term addend-term specification start-terms start where-held replaced all-replaced made step trail run
     set-width term-width misfits kind-wrong is-gate order-wrong lent-short judge-checks roomy held completed inputs-only sooner
     soonest operand-a operand-b operand-c first-word second-word shown-for differs ended verdict term-words polynomial-words padded records over kept-or checks refusal polynomials judging
-    store-after scratch-after log-after counts-at occurring occurrences with-occurrences occurrences-after
+    store-after scratch-after recorded log-after counts-at occurring occurrences with-occurrences occurrences-after
     record-words cell-word record-of record-at cell-sound record-sound record-value lies-in evenly evens odds coefficient above below scaled
     times-chosen times-subset times-whole times-record most-made scratch-needed
     digit leading-digits value-from well-written behind with-numbers and-then field fields word header-line tested input-line
@@ -130,8 +133,8 @@ unfolding same same-records same-says handed filled words-right judged-right rea
 right row = read-right row (reading 2106 (row .text))
 
 -- a row at T = 128
-unfoldable pub sheet : List ℕ → ℕ → List ℕ → ℕ → Says → List ℕ → List ℕ → List ℕ → Row
-sheet text kind order begins says store numbers terms =
+unfoldable pub sheet : List ℕ → ℕ → List ℕ → ℕ → Says → List ℕ → List ℕ → List ℕ → List ℕ → Row
+sheet text kind order begins says store numbers terms made =
     record {
       text = text;
       kind = kind;
@@ -143,6 +146,7 @@ sheet text kind order begins says store numbers terms =
       numbers = numbers;
       gates = take (length terms) order;
       terms = terms;
+      made = made;
     }
 
 -- AND: `aag 3 2 0 2 1` with gate `6 4 2`, and its two outputs
@@ -165,20 +169,25 @@ ten-down = 14 ∷ 13 ∷ 12 ∷ 11 ∷ 10 ∷ 9 ∷ 8 ∷ 7 ∷ 6 ∷ 5 ∷ []
 unfoldable pub desk-example : List ℕ
 desk-example = bytes "aag 3 2 0 2 1\n2\n4\n7\n0\n6 5 3\n"
 
--- P1 to P11: text, kind, order, terms at the start, what is said, the store's words, the occurrences, the terms after each step
+-- P1 to P11: text, kind, order, terms at the start, what is said, the store's words, the occurrences, and for each step the terms after it
+-- and those before gathering
 unfoldable pub bench-sheet : List Row
 bench-sheet =
-    sheet (and-block "6\n0\n") 0 (3 ∷ []) 2 (answers 0 (1 ∷ 0 ∷ [])) [] [] (0 ∷ [])
-    ∷ sheet (and-block "6\n0\n") 1 (3 ∷ []) 2 (answers 0 (1 ∷ 0 ∷ [])) [] [] (0 ∷ [])
-    ∷ sheet (and-block "6\n6\n") 0 (3 ∷ []) 2 (answers 1 (1 ∷ 1 ∷ 1 ∷ 1 ∷ 0 ∷ 3 ∷ 1 ∷ [])) (2 ∷ 6 ∷ []) (1 ∷ 1 ∷ 1 ∷ []) (1 ∷ [])
-    ∷ sheet (and-block "6\n6\n") 1 (3 ∷ []) 2 (answers 1 (1 ∷ 1 ∷ 1 ∷ 1 ∷ 0 ∷ 3 ∷ 1 ∷ [])) (2 ∷ 6 ∷ []) (1 ∷ 1 ∷ 1 ∷ []) (1 ∷ [])
-    ∷ sheet (and-block "7\n0\n") 0 (3 ∷ []) 3 (answers 1 (1 ∷ 2 ∷ 0 ∷ 0 ∷ 0 ∷ 1 ∷ 0 ∷ [])) (2 ∷ 6 ∷ 1 ∷ 0 ∷ []) (2 ∷ 1 ∷ 1 ∷ []) (2 ∷ [])
-    ∷ sheet (and-block "6\n0\n") 0 [] 2 (answers 3 (0 ∷ 2 ∷ [])) (1 ∷ 8 ∷ 3 ∷ 6 ∷ []) (2 ∷ 1 ∷ 1 ∷ 1 ∷ []) []
-    ∷ sheet (and-block "6\n0\n") 0 (3 ∷ 3 ∷ []) 2 (answers 0 (2 ∷ 0 ∷ [])) [] [] (0 ∷ 0 ∷ [])
-    ∷ sheet (bytes "aag 3 2 0 1 1\n2\n4\n6\n6 4 2\n") 2 (3 ∷ []) 2 (answers 0 (1 ∷ 0 ∷ [])) [] [] (0 ∷ [])
-    ∷ sheet desk-example 0 (3 ∷ []) 3 (answers 1 (1 ∷ 3 ∷ 1 ∷ 0 ∷ 0 ∷ 1 ∷ 0 ∷ [])) (2 ∷ 6 ∷ 1 ∷ 4 ∷ 1 ∷ 2 ∷ []) (3 ∷ 2 ∷ 2 ∷ []) (3 ∷ [])
-    ∷ sheet two-bits 0 ten-down 8 (answers 0 (10 ∷ 0 ∷ [])) [] [] (10 ∷ 13 ∷ 8 ∷ 10 ∷ 13 ∷ 8 ∷ 6 ∷ 4 ∷ 2 ∷ 0 ∷ [])
-    ∷ sheet two-bits 1 ten-down 8 (answers 1 (10 ∷ 2 ∷ 2 ∷ 1 ∷ 0 ∷ 2 ∷ 14 ∷ [])) (4 ∷ 18 ∷ 4 ∷ 12 ∷ []) (2 ∷ 1 ∷ 1 ∷ 1 ∷ 1 ∷ []) (10 ∷ 13 ∷ 8 ∷ 10 ∷ 13 ∷ 8 ∷ 6 ∷ 5 ∷ 4 ∷ 2 ∷ [])
+    sheet (and-block "6\n0\n") 0 (3 ∷ []) 2 (answers 0 (1 ∷ 0 ∷ [])) [] [] (0 ∷ []) (2 ∷ [])
+    ∷ sheet (and-block "6\n0\n") 1 (3 ∷ []) 2 (answers 0 (1 ∷ 0 ∷ [])) [] [] (0 ∷ []) (2 ∷ [])
+    ∷ sheet (and-block "6\n6\n") 0 (3 ∷ []) 2 (answers 1 (1 ∷ 1 ∷ 1 ∷ 1 ∷ 0 ∷ 3 ∷ 1 ∷ [])) (2 ∷ 6 ∷ []) (1 ∷ 1 ∷ 1 ∷ []) (1 ∷ []) (2 ∷ [])
+    ∷ sheet (and-block "6\n6\n") 1 (3 ∷ []) 2 (answers 1 (1 ∷ 1 ∷ 1 ∷ 1 ∷ 0 ∷ 3 ∷ 1 ∷ [])) (2 ∷ 6 ∷ []) (1 ∷ 1 ∷ 1 ∷ []) (1 ∷ []) (2 ∷ [])
+    ∷ sheet (and-block "7\n0\n") 0 (3 ∷ []) 3 (answers 1 (1 ∷ 2 ∷ 0 ∷ 0 ∷ 0 ∷ 1 ∷ 0 ∷ [])) (2 ∷ 6 ∷ 1 ∷ 0 ∷ []) (2 ∷ 1 ∷ 1 ∷ []) (2 ∷ []) (3 ∷ [])
+    ∷ sheet (and-block "6\n0\n") 0 [] 2 (answers 3 (0 ∷ 2 ∷ [])) (1 ∷ 8 ∷ 3 ∷ 6 ∷ []) (2 ∷ 1 ∷ 1 ∷ 1 ∷ []) [] []
+    ∷ sheet (and-block "6\n0\n") 0 (3 ∷ 3 ∷ []) 2 (answers 0 (2 ∷ 0 ∷ [])) [] [] (0 ∷ 0 ∷ []) (2 ∷ 0 ∷ [])
+    ∷ sheet (bytes "aag 3 2 0 1 1\n2\n4\n6\n6 4 2\n") 2 (3 ∷ []) 2 (answers 0 (1 ∷ 0 ∷ [])) [] [] (0 ∷ []) (2 ∷ [])
+    ∷ sheet desk-example 0 (3 ∷ []) 3 (answers 1 (1 ∷ 3 ∷ 1 ∷ 0 ∷ 0 ∷ 1 ∷ 0 ∷ [])) (2 ∷ 6 ∷ 1 ∷ 4 ∷ 1 ∷ 2 ∷ []) (3 ∷ 2 ∷ 2 ∷ []) (3 ∷ []) (6 ∷ [])
+    ∷ sheet two-bits 0 ten-down 8 (answers 0 (10 ∷ 0 ∷ [])) [] []
+    (10 ∷ 13 ∷ 8 ∷ 10 ∷ 13 ∷ 8 ∷ 6 ∷ 4 ∷ 2 ∷ 0 ∷ [])
+    (11 ∷ 16 ∷ 13 ∷ 11 ∷ 16 ∷ 13 ∷ 8 ∷ 6 ∷ 4 ∷ 2 ∷ [])
+    ∷ sheet two-bits 1 ten-down 8 (answers 1 (10 ∷ 2 ∷ 2 ∷ 1 ∷ 0 ∷ 2 ∷ 14 ∷ [])) (4 ∷ 18 ∷ 4 ∷ 12 ∷ []) (2 ∷ 1 ∷ 1 ∷ 1 ∷ 1 ∷ [])
+    (10 ∷ 13 ∷ 8 ∷ 10 ∷ 13 ∷ 8 ∷ 6 ∷ 5 ∷ 4 ∷ 2 ∷ [])
+    (11 ∷ 16 ∷ 13 ∷ 11 ∷ 16 ∷ 13 ∷ 8 ∷ 6 ∷ 5 ∷ 4 ∷ [])
     ∷ []
 
 -- every row of the bench sheet is right

@@ -2,7 +2,8 @@
 use mathlib.Core.Path.{_≡_, refl}
 use mathlib.Core.Bool.{Bool, true, false, not, _&&_}
 use mathlib.Core.List.{List, [], _∷_, _++_}
-use Prim.Native.Nat.{ℕ, _+_, _*_}
+use Prim.Native.Nat.{ℕ, _+_, _-_, _*_}
+use Prim.Native.String.{String}
 use lib.ListN.{length, drop, replicate}
 use Rattle.rules.specs.Each.{every, listed}
 use Rattle.rules.specs.Says.{Says, refuses, answers}
@@ -16,7 +17,8 @@ use Rattle.rules.specs.declared.counts.Counts.{Counts}
 use Rattle.rules.specs.declared.records.RecordKind.the-variants.{Gates, Cells}
 use Rattle.rules.specs.Bench.{Row, bytes, same-says, handed, judged-right, sheet, and-block, two-bit-gates, two-bits, ten-down, right, desk-prints}
 
--- P1's block, kind, limit and order, with what is said; an answer leaves an empty store and 0 terms after each step
+-- P1's block, kind, limit and order, with what is said; an answer leaves an empty store and 0 terms after each step, and the first alone has
+-- terms before it
 unfoldable pub edge : ℕ → ℕ → List ℕ → Says → Row
 edge kind limit order says =
     record {
@@ -30,11 +32,12 @@ edge kind limit order says =
       numbers = [];
       gates = order;
       terms = replicate (length order) 0;
+      made = 2 ∷ replicate (length order - 1) 0;
     }
 
 -- a text that is refused when it is read, or whose block is refused when it is judged as plain
 unfoldable pub unfit : List ℕ → ℕ → Row
-unfit text k = sheet text 0 [] 0 (refuses k) [] [] []
+unfit text k = sheet text 0 [] 0 (refuses k) [] [] [] []
 
 -- 12-bit operands: outputs 51, 53, .. 97 are the inverses of the gates 25 to 48, each AND of two inputs
 unfoldable pub twelve-bits : List ℕ
@@ -57,6 +60,7 @@ twelve limit says =
       numbers = [];
       gates = [];
       terms = [];
+      made = [];
     }
 
 -- limits at their edges: T 127, 4,096 and 4,097 steps, M 1,023 (its counts are taken, the input lines are missing) and 1,024, I 0, 66
@@ -115,12 +119,39 @@ turns =
     (12 ∷ 20 ∷ 14 ∷ 18 ∷ 14 ∷ 12 ∷ 15 ∷ 10 ∷ 1 ∷ 8 ∷ 2 ∷ 6 ∷ [])
     (6 ∷ 3 ∷ 3 ∷ 3 ∷ 2 ∷ [])
     (6 ∷ [])
+    (6 ∷ [])
     ∷ sheet (bytes "aag 14 4 0 2 10\n2\n4\n6\n8\n10\n22\n" ++ two-bit-gates) 2 ten-down 5
     (answers 0 (10 ∷ 0 ∷ []))
     []
     []
     (5 ∷ 5 ∷ 5 ∷ 8 ∷ 10 ∷ 6 ∷ 6 ∷ 4 ∷ 2 ∷ 0 ∷ [])
-    ∷ sheet two-bits 0 winding 8 (answers 0 (10 ∷ 0 ∷ [])) [] [] (11 ∷ 12 ∷ 15 ∷ 10 ∷ 13 ∷ 8 ∷ 6 ∷ 4 ∷ 2 ∷ 0 ∷ [])
+    (5 ∷ 5 ∷ 5 ∷ 8 ∷ 14 ∷ 10 ∷ 6 ∷ 6 ∷ 4 ∷ 2 ∷ [])
+    ∷ sheet two-bits 0 winding 8 (answers 0 (10 ∷ 0 ∷ [])) [] []
+    (11 ∷ 12 ∷ 15 ∷ 10 ∷ 13 ∷ 8 ∷ 6 ∷ 4 ∷ 2 ∷ 0 ∷ [])
+    (11 ∷ 14 ∷ 18 ∷ 15 ∷ 16 ∷ 13 ∷ 8 ∷ 6 ∷ 4 ∷ 2 ∷ [])
+    ∷ []
+
+-- the gate of AND's block with these two literals
+unfoldable pub one-gate : String → List ℕ
+one-gate literals = bytes "aag 3 2 0 2 1\n2\n4\n6\n0\n6 " ++ bytes literals
+
+-- what a gate makes of the one term that holds it: four by one inverted literal twice, none by literal 0, two by an inverted literal and
+-- literal 1
+unfoldable pub peaks : List Row
+peaks =
+    sheet (one-gate "5 5\n") 0 (3 ∷ []) 2
+    (answers 1 (1 ∷ 3 ∷ 0 ∷ 0 ∷ 0 ∷ 1 ∷ 0 ∷ []))
+    (3 ∷ 6 ∷ 3 ∷ 4 ∷ 1 ∷ 0 ∷ [])
+    (3 ∷ 1 ∷ 2 ∷ [])
+    (3 ∷ [])
+    (5 ∷ [])
+    ∷ sheet (one-gate "4 0\n") 0 (3 ∷ []) 2 (answers 1 (1 ∷ 1 ∷ 1 ∷ 1 ∷ 0 ∷ 0 ∷ 1 ∷ [])) (3 ∷ 6 ∷ []) (1 ∷ 1 ∷ 1 ∷ []) (1 ∷ []) (1 ∷ [])
+    ∷ sheet (one-gate "5 1\n") 0 (3 ∷ []) 2
+    (answers 1 (1 ∷ 3 ∷ 0 ∷ 0 ∷ 0 ∷ 1 ∷ 0 ∷ []))
+    (3 ∷ 6 ∷ 3 ∷ 4 ∷ 1 ∷ 0 ∷ [])
+    (3 ∷ 1 ∷ 2 ∷ [])
+    (3 ∷ [])
+    (3 ∷ [])
     ∷ []
 
 -- a·b + c of one-bit a and b, and the same without the upper bit of c: wrong at c = 2
@@ -141,17 +172,17 @@ six-inputs = bytes "aag 6 6 0 2 0\n2\n4\n6\n8\n10\n12\n2\n4\n"
 -- multiply and add under a kind: a right block, a wrong one with its operands, and six inputs, which are no multiple of four
 unfoldable pub added : ℕ → List Row
 added kind =
-    sheet one-bit-sum kind (11 ∷ 10 ∷ 9 ∷ 8 ∷ 7 ∷ 6 ∷ 5 ∷ []) 5 (answers 0 (7 ∷ 0 ∷ [])) [] [] (8 ∷ 8 ∷ 4 ∷ 6 ∷ 7 ∷ 2 ∷ 0 ∷ [])
-    ∷ sheet upper-bit-lost kind (8 ∷ 7 ∷ 6 ∷ 5 ∷ []) 5 (answers 1 (4 ∷ 1 ∷ 0 ∷ 0 ∷ 2 ∷ 0 ∷ 2 ∷ [])) (2 ∷ 16 ∷ []) (1 ∷ 0 ∷ 0 ∷ 0 ∷ 1 ∷ []) (7 ∷ 8 ∷ 3 ∷ 1 ∷ [])
-    ∷ sheet six-inputs kind [] 0 (refuses 9) [] [] []
+    sheet one-bit-sum kind (11 ∷ 10 ∷ 9 ∷ 8 ∷ 7 ∷ 6 ∷ 5 ∷ []) 5 (answers 0 (7 ∷ 0 ∷ [])) [] [] (8 ∷ 8 ∷ 4 ∷ 6 ∷ 7 ∷ 2 ∷ 0 ∷ []) (8 ∷ 14 ∷ 8 ∷ 7 ∷ 12 ∷ 7 ∷ 2 ∷ [])
+    ∷ sheet upper-bit-lost kind (8 ∷ 7 ∷ 6 ∷ 5 ∷ []) 5 (answers 1 (4 ∷ 1 ∷ 0 ∷ 0 ∷ 2 ∷ 0 ∷ 2 ∷ [])) (2 ∷ 16 ∷ []) (1 ∷ 0 ∷ 0 ∷ 0 ∷ 1 ∷ []) (7 ∷ 8 ∷ 3 ∷ 1 ∷ []) (8 ∷ 13 ∷ 8 ∷ 3 ∷ [])
+    ∷ sheet six-inputs kind [] 0 (refuses 9) [] [] [] []
     ∷ []
 
 -- both kinds; and what is left where c cancels, the product of two bits with every sign plus, or with two's complement's signs
 unfoldable pub sums : List Row
 sums =
     added 3 ++ added 4
-    ++ sheet product-lost 3 [] 4 (answers 1 (0 ∷ 4 ∷ 1 ∷ 1 ∷ 0 ∷ 0 ∷ 1 ∷ [])) (12 ∷ 20 ∷ 14 ∷ 18 ∷ 14 ∷ 12 ∷ 15 ∷ 10 ∷ []) (4 ∷ 2 ∷ 2 ∷ 2 ∷ 2 ∷ []) []
-    ∷ sheet product-lost 4 [] 4 (answers 1 (0 ∷ 4 ∷ 1 ∷ 1 ∷ 0 ∷ 0 ∷ 1 ∷ [])) (12 ∷ 20 ∷ 2 ∷ 18 ∷ 2 ∷ 12 ∷ 15 ∷ 10 ∷ []) (4 ∷ 2 ∷ 2 ∷ 2 ∷ 2 ∷ []) []
+    ++ sheet product-lost 3 [] 4 (answers 1 (0 ∷ 4 ∷ 1 ∷ 1 ∷ 0 ∷ 0 ∷ 1 ∷ [])) (12 ∷ 20 ∷ 14 ∷ 18 ∷ 14 ∷ 12 ∷ 15 ∷ 10 ∷ []) (4 ∷ 2 ∷ 2 ∷ 2 ∷ 2 ∷ []) [] []
+    ∷ sheet product-lost 4 [] 4 (answers 1 (0 ∷ 4 ∷ 1 ∷ 1 ∷ 0 ∷ 0 ∷ 1 ∷ [])) (12 ∷ 20 ∷ 2 ∷ 18 ∷ 2 ∷ 12 ∷ 15 ∷ 10 ∷ []) (4 ∷ 2 ∷ 2 ∷ 2 ∷ 2 ∷ []) [] []
     ∷ []
 
 -- the counts of a block of two inputs, two outputs and so many lookup cells
@@ -163,20 +194,20 @@ unfoldable pub cells-as : ℕ → List ℕ → Row → Bool
 cells-as a table row = judged-right row (handed row (cell-counts a) table)
 
 -- lookup cells: AND, by a byte that has x3 (constant false) free and by one that has not; x1 and not x2, wrong at a = 1; all three variables,
--- where 4·x1·x2·x3 vanishes modulo 4; one variable twice; a byte above 255, a variable that is not below its cell's own, and a table
+-- where 4·x1·x2·x3 vanishes modulo 4 but counts before gathering; one variable twice; a byte above 255, a variable that is not below its cell's own, and a table
 -- of O + 4A - 1 words
 unfoldable pub cell-cases : Bool
 unfolding right
 cell-cases =
-    cells-as 1 (6 ∷ 0 ∷ 136 ∷ 1 ∷ 2 ∷ 0 ∷ []) (sheet [] 0 (3 ∷ []) 2 (answers 0 (1 ∷ 0 ∷ [])) [] [] (0 ∷ []))
-    && cells-as 1 (6 ∷ 0 ∷ 8 ∷ 2 ∷ 1 ∷ 0 ∷ []) (sheet [] 0 (3 ∷ []) 2 (answers 0 (1 ∷ 0 ∷ [])) [] [] (0 ∷ []))
-    && cells-as 1 (6 ∷ 0 ∷ 34 ∷ 1 ∷ 2 ∷ 0 ∷ []) (sheet [] 0 (3 ∷ []) 2 (answers 1 (1 ∷ 2 ∷ 1 ∷ 0 ∷ 0 ∷ 1 ∷ 0 ∷ [])) (2 ∷ 6 ∷ 1 ∷ 2 ∷ []) (2 ∷ 2 ∷ 1 ∷ []) (2 ∷ []))
-    && cells-as 2 (8 ∷ 0 ∷ 136 ∷ 1 ∷ 2 ∷ 0 ∷ 150 ∷ 1 ∷ 2 ∷ 3 ∷ []) (sheet [] 0 (4 ∷ 3 ∷ []) 2 (answers 1 (2 ∷ 3 ∷ 1 ∷ 0 ∷ 0 ∷ 1 ∷ 0 ∷ [])) (2 ∷ 6 ∷ 1 ∷ 4 ∷ 1 ∷ 2 ∷ []) (3 ∷ 2 ∷ 2 ∷ []) (6 ∷ 3 ∷ []))
-    && cells-as 1 (6 ∷ 0 ∷ 150 ∷ 1 ∷ 2 ∷ 1 ∷ []) (sheet [] 0 (3 ∷ []) 2 (answers 1 (1 ∷ 2 ∷ 0 ∷ 1 ∷ 0 ∷ 1 ∷ 0 ∷ [])) (3 ∷ 6 ∷ 1 ∷ 4 ∷ []) (2 ∷ 1 ∷ 2 ∷ []) (2 ∷ []))
-    && cells-as 1 (6 ∷ 0 ∷ 255 ∷ 2 ∷ 2 ∷ 2 ∷ []) (sheet [] 0 (3 ∷ []) 2 (answers 1 (1 ∷ 2 ∷ 0 ∷ 0 ∷ 0 ∷ 1 ∷ 0 ∷ [])) (3 ∷ 6 ∷ 1 ∷ 0 ∷ []) (2 ∷ 1 ∷ 1 ∷ []) (2 ∷ []))
-    && cells-as 1 (6 ∷ 0 ∷ 256 ∷ 1 ∷ 2 ∷ 0 ∷ []) (sheet [] 0 (3 ∷ []) 2 (refuses 8) [] [] [])
-    && cells-as 1 (6 ∷ 0 ∷ 136 ∷ 1 ∷ 2 ∷ 3 ∷ []) (sheet [] 0 (3 ∷ []) 2 (refuses 8) [] [] [])
-    && cells-as 1 (6 ∷ 0 ∷ 136 ∷ 1 ∷ 2 ∷ []) (sheet [] 0 (3 ∷ []) 2 (refuses 3) [] [] [])
+    cells-as 1 (6 ∷ 0 ∷ 136 ∷ 1 ∷ 2 ∷ 0 ∷ []) (sheet [] 0 (3 ∷ []) 2 (answers 0 (1 ∷ 0 ∷ [])) [] [] (0 ∷ []) (2 ∷ []))
+    && cells-as 1 (6 ∷ 0 ∷ 8 ∷ 2 ∷ 1 ∷ 0 ∷ []) (sheet [] 0 (3 ∷ []) 2 (answers 0 (1 ∷ 0 ∷ [])) [] [] (0 ∷ []) (2 ∷ []))
+    && cells-as 1 (6 ∷ 0 ∷ 34 ∷ 1 ∷ 2 ∷ 0 ∷ []) (sheet [] 0 (3 ∷ []) 2 (answers 1 (1 ∷ 2 ∷ 1 ∷ 0 ∷ 0 ∷ 1 ∷ 0 ∷ [])) (2 ∷ 6 ∷ 1 ∷ 2 ∷ []) (2 ∷ 2 ∷ 1 ∷ []) (2 ∷ []) (3 ∷ []))
+    && cells-as 2 (8 ∷ 0 ∷ 136 ∷ 1 ∷ 2 ∷ 0 ∷ 150 ∷ 1 ∷ 2 ∷ 3 ∷ []) (sheet [] 0 (4 ∷ 3 ∷ []) 2 (answers 1 (2 ∷ 3 ∷ 1 ∷ 0 ∷ 0 ∷ 1 ∷ 0 ∷ [])) (2 ∷ 6 ∷ 1 ∷ 4 ∷ 1 ∷ 2 ∷ []) (3 ∷ 2 ∷ 2 ∷ []) (6 ∷ 3 ∷ []) (8 ∷ 6 ∷ []))
+    && cells-as 1 (6 ∷ 0 ∷ 150 ∷ 1 ∷ 2 ∷ 1 ∷ []) (sheet [] 0 (3 ∷ []) 2 (answers 1 (1 ∷ 2 ∷ 0 ∷ 1 ∷ 0 ∷ 1 ∷ 0 ∷ [])) (3 ∷ 6 ∷ 1 ∷ 4 ∷ []) (2 ∷ 1 ∷ 2 ∷ []) (2 ∷ []) (8 ∷ []))
+    && cells-as 1 (6 ∷ 0 ∷ 255 ∷ 2 ∷ 2 ∷ 2 ∷ []) (sheet [] 0 (3 ∷ []) 2 (answers 1 (1 ∷ 2 ∷ 0 ∷ 0 ∷ 0 ∷ 1 ∷ 0 ∷ [])) (3 ∷ 6 ∷ 1 ∷ 0 ∷ []) (2 ∷ 1 ∷ 1 ∷ []) (2 ∷ []) (2 ∷ []))
+    && cells-as 1 (6 ∷ 0 ∷ 256 ∷ 1 ∷ 2 ∷ 0 ∷ []) (sheet [] 0 (3 ∷ []) 2 (refuses 8) [] [] [] [])
+    && cells-as 1 (6 ∷ 0 ∷ 136 ∷ 1 ∷ 2 ∷ 3 ∷ []) (sheet [] 0 (3 ∷ []) 2 (refuses 8) [] [] [] [])
+    && cells-as 1 (6 ∷ 0 ∷ 136 ∷ 1 ∷ 2 ∷ []) (sheet [] 0 (3 ∷ []) 2 (refuses 3) [] [] [] [])
 
 -- scratch at T = 128 for sets of one word: 8T(W + 1) words for lookup cells, and 4T(W + 1) for AND gates, and not one less; and
 -- M + 1 words for the occurrences
@@ -230,6 +261,11 @@ turns-right : every right turns ≡ true
 unfolding right bytes sheet and-block two-bit-gates two-bits ten-down digits decimal fields-text header-text input-text output-text gate-text text-of
     edge unfit twelve-bits twelve edges damaged winding turns
 turns-right = refl
+
+-- every peak is right
+peaks-right : every right peaks ≡ true
+unfolding right bytes sheet one-gate peaks
+peaks-right = refl
 
 -- every case of multiply and add is right
 sums-right : every right sums ≡ true

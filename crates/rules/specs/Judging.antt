@@ -13,7 +13,7 @@ use Rattle.rules.specs.Values.{shown}
 use Rattle.rules.specs.Product.{Kind, kind-of, kind-unknown, shares, operand-width, operand-a, operand-b, operand-c, first-word, second-word, outputs-of, wanted-word}
 use Rattle.rules.specs.Occurrences.{with-occurrences}
 use Rattle.rules.specs.Polynomial.{Term, Polynomial}
-use Rattle.rules.specs.Steps.{run}
+use Rattle.rules.specs.Steps.{modulus, made, run}
 use Rattle.rules.specs.Says.{Says, answers, first, refuse-or, says}
 use Rattle.rules.specs.declared.answers.Answer.{Answer}
 use Rattle.rules.specs.declared.answers.StepRecord.{StepRecord}
@@ -141,12 +141,14 @@ polynomial-words w (t ∷ p) = term-words w t ++ polynomial-words w p
 unfoldable pub padded : ℕ → List ℕ → List ℕ
 padded lent words = words ++ replicate (lent - length words) 0
 
--- for each step of the order its gate, and the number of terms of the polynomial after it; the first polynomial is that of step 0
-unfoldable pub records : List ℕ → List Polynomial → List StepRecord
-records [] polynomials = []
-records (v ∷ order) [] = []
-records (v ∷ order) (p ∷ []) = []
-records (v ∷ order) (p ∷ q ∷ later) = record { gate = v; terms = length q } ∷ records order (q ∷ later)
+-- for each step of the order its gate, the number of terms of the polynomial after it, and the number before gathering; the first
+-- polynomial is that of step 0
+unfoldable pub records : ℕ → Counts → List ℕ → List ℕ → List Polynomial → List StepRecord
+records m c table [] polynomials = []
+records m c table (v ∷ order) [] = []
+records m c table (v ∷ order) (p ∷ []) = []
+records m c table (v ∷ order) (p ∷ q ∷ later) =
+    record { gate = v; terms = length q; made = made m c table v p } ∷ records m c table order (q ∷ later)
 
 -- the first entries, then what stood behind them
 unfoldable pub over : {A : Type 0} → ℕ → List A → List A → List A
@@ -207,10 +209,14 @@ store-after x =
 unfoldable pub scratch-after : Inputs → List ℕ
 scratch-after x = kept-or (refusal x) (x .scratch) (replicate (length (x .scratch)) 0)
 
+-- the records of the run that is asked for
+unfoldable pub recorded : Inputs → List StepRecord
+recorded x = records (modulus (kind-of (x .kind)) (x .counts)) (x .counts) (x .table) (x .order) (polynomials x)
+
 -- the log at exit: a record for each step completed, and its other records as they were
 unfoldable pub log-after : Inputs → List StepRecord
 log-after x =
-    let new = over (completed (x .limit) (polynomials x)) (records (x .order) (polynomials x)) (x .log) in
+    let new = over (completed (x .limit) (polynomials x)) (recorded x) (x .log) in
     kept-or (refusal x) (x .log) new
 
 -- the occurrences at exit: those of the polynomial held, and its other words as they were

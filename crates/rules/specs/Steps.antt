@@ -57,6 +57,10 @@ unfoldable pub all-replaced : ℕ → ℕ → Record → Polynomial → Polynomi
 all-replaced m v r [] = []
 all-replaced m v r (t ∷ p) = replaced m v r t ++ all-replaced m v r p
 
+-- the terms of a step of gate v before gathering: those without the gate, and all that the replacement made
+unfoldable pub made : ℕ → Counts → List ℕ → ℕ → Polynomial → ℕ
+made m c table v p = length (all-replaced m v (record-at c table v) p)
+
 -- a step of gate v
 unfoldable pub step : ℕ → Counts → List ℕ → ℕ → Polynomial → Polynomial
 step m c table v p = gather m (all-replaced m v (record-at c table v) p)

@@ -39,11 +39,12 @@ pub enum Answer {
     Refused(u32),
 }
 
-// In the log of the judge, for a step completed: its gate, and the number of terms after it.
+// In the log of the judge, for a step completed: its gate, the number of terms after it, and the number before like ones were gathered.
 #[repr(C)]
 pub struct StepRecord {
     pub gate: u32,
     pub terms: u32,
+    pub made: u32,
 }
 
 // Of the desk program: the bytes of its line, then zeros, and how many bytes the line has.

@@ -4,8 +4,8 @@
  *
  * It takes sound tables of AND gates or of lookup cells, and orders that
  * name gates or cells only, and gives the answer's letter, its step, the
- * terms held and how often each variable occurs in them. It leaves no sorted
- * polynomial and no log, as the proved judge has to.
+ * terms held, how often each variable occurs in them, and a record of each
+ * step completed. It leaves no sorted polynomial, as the proved judge has to.
  */
 #include <stddef.h>
 #include <stdint.h>
@@ -18,6 +18,11 @@
 #define CELL_WORDS 4
 #define SUBSETS 8
 #define BIT(v) (UINT64_C(1) << (v) % 64)
+
+/* A record of the log: the gate of a step, the terms after it, and those before like ones met. */
+struct step_record {
+    uint32_t gate, terms, made;
+};
 
 struct polynomial {
     uint64_t *terms; /* width words each, in no order: the coefficient, then the set */
@@ -187,15 +192,24 @@ static void add_parts(struct polynomial *p, const uint64_t *set, uint64_t coeffi
     }
 }
 
+/* How many terms a literal makes of one: 0 none, 1 and x one, 1 - x two. */
+static uint32_t made_by(uint32_t literal)
+{
+    return literal < 2 ? literal : 1 + (literal & 1);
+}
+
 /*
  * Replaces v by its gate or cell. That reads only below itself, so no term
- * put in holds v and the pass may end with the last that did.
+ * put in holds v and the pass may end with the last that did. Gives the terms
+ * before gathering: those without v, and what all others are replaced by.
  */
-static void step(struct polynomial *p, uint32_t v, const uint32_t *record, uint32_t cells)
+static uint32_t step(struct polynomial *p, uint32_t v, const uint32_t *record, uint32_t cells)
 {
     struct parts parts;
     if (cells)
         take_parts(&parts, record);
+    uint32_t of_one = cells ? (uint32_t)parts.count : made_by(record[0]) * made_by(record[1]);
+    uint32_t made = p->occurrences[0] - p->occurrences[v] + of_one * p->occurrences[v];
     /* Terms of coefficient 0 are passed over in vain. */
     if (p->used > p->occurrences[0] + p->occurrences[0] / 4 + 32)
         drop_zeros(p);
@@ -212,6 +226,7 @@ static void step(struct polynomial *p, uint32_t v, const uint32_t *record, uint3
         else
             add_times(p, rest, coefficient, record, 2);
     }
+    return made;
 }
 
 /* E, D or U, by the variables that are left after the last step. */
@@ -245,11 +260,12 @@ size_t hash_judge_slots(uint64_t limit, uint32_t cells)
  * Gives the letter E, D, R or U, and in shown the step and the terms held. A
  * table of cells is told by cells not 0. In the m + 1 words of occurrences it
  * keeps how often each variable occurs in the polynomial held, [0] being all
- * of its terms. They are put aside before a step that may have no room.
+ * of its terms. They are put aside before a step that may have no room. The
+ * log gets a record for each step completed.
  */
 char hash_judge(uint32_t m, uint32_t i, uint32_t o, const uint32_t *table, uint32_t cells, uint32_t kind,
                 uint64_t limit, const uint32_t *order, size_t order_length, uint64_t *terms, uint32_t *slots,
-                uint32_t *occurrences, uint64_t *shown)
+                uint32_t *occurrences, struct step_record *log, uint64_t *shown)
 {
     struct polynomial p = {terms, slots, m / 64 + 2, 0, 0, BIT(o - 1) * 2 - 1, occurrences};
     size_t record_words = cells ? CELL_WORDS : GATE_WORDS, bytes = ((size_t)m + 1) * sizeof *occurrences;
@@ -268,11 +284,12 @@ char hash_judge(uint32_t m, uint32_t i, uint32_t o, const uint32_t *table, uint3
         /* A cell makes up to eight terms of one, a gate up to four. */
         if (occurrences[0] + (cells ? 7 : 3) * (uint64_t)occurrences[v] > limit)
             memcpy(before, occurrences, bytes);
-        step(&p, v, table + o + record_words * (v - i - 1), cells);
+        uint32_t made = step(&p, v, table + o + record_words * (v - i - 1), cells);
         if (occurrences[0] > limit) {
             memcpy(occurrences, before, bytes);
             return 'R';
         }
+        log[k] = (struct step_record){v, occurrences[0], made};
     }
     shown[1] = occurrences[0];
     return last_answer(&p, m, i);

@@ -102,18 +102,18 @@ fn judged(block: &Block, limit: u64, repeats: u32) -> Option<(Verdict, Times)> {
         }
         agreed = Some(verdicts[0]);
     }
-    if !count_the_same(&to_library, &to_second, &to_hash) {
-        println!("{}: DISAGREE on occurrences", block.name);
+    if !left_the_same(&to_library, &to_second, &to_hash) {
+        println!("{}: DISAGREE on occurrences or on the log", block.name);
         return None;
     }
     agreed.map(|verdict| (verdict, times))
 }
 
-/// Whether all three left the same numbers of occurrences.
-fn count_the_same(library: &Lent, second: &Lent, hash: &LentToHash) -> bool {
-    [&library.occurrences, &second.occurrences]
+/// Whether all three left the same numbers of occurrences and the same records.
+fn left_the_same(library: &Lent, second: &Lent, hash: &LentToHash) -> bool {
+    [library, second]
         .iter()
-        .all(|numbers| **numbers == hash.occurrences)
+        .all(|left| left.occurrences == hash.occurrences && left.log == hash.log)
 }
 
 fn print_row(name: &str, [library, second, hash]: [f64; 3], answer: &str) {

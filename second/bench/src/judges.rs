@@ -84,6 +84,7 @@ pub struct LentToHash {
     terms: Vec<u64>,
     slots: Vec<u32>,
     pub occurrences: Vec<u32>,
+    pub log: Vec<Step>,
 }
 
 impl LentToHash {
@@ -99,6 +100,7 @@ impl LentToHash {
             terms: vec![0; words],
             slots: vec![0; slots],
             occurrences: vec![0; question.occurrence_words()],
+            log: vec![Step::default(); question.order.len()],
         }
     }
 }
@@ -121,6 +123,7 @@ extern "C" {
         terms: *mut u64,
         slots: *mut u32,
         occurrences: *mut u32,
+        log: *mut Step,
         shown: *mut u64,
     ) -> u8;
 }
@@ -182,7 +185,8 @@ pub fn by_second(question: &Question, lent: &mut Lent) -> Verdict {
 /// The C judge refuses nothing: it is asked only what the others have taken.
 pub fn by_hash(question: &Question, lent: &mut LentToHash) -> Verdict {
     let mut shown = [0; 2];
-    // SAFETY: the question is sound, and the words are as many as the C judge asks for.
+    // SAFETY: the question is sound, the words are as many as the C judge asks for, there is a record for each step, and
+    // it is laid out as in C.
     let letter = unsafe {
         hash_judge(
             question.counts.m,
@@ -197,6 +201,7 @@ pub fn by_hash(question: &Question, lent: &mut LentToHash) -> Verdict {
             lent.terms.as_mut_ptr(),
             lent.slots.as_mut_ptr(),
             lent.occurrences.as_mut_ptr(),
+            lent.log.as_mut_ptr(),
             shown.as_mut_ptr(),
         )
     };

@@ -3,6 +3,7 @@
 use crate::judges::{by_hash, by_second, Lent, LentToHash, Question, Verdict};
 use crate::pairs::{try_all, Tried};
 use second::brute::least_wrong_operands;
+use second::cases::marked_steps;
 use second::netlists::{random_for, right_multiplier, with_fault, Made};
 use second::orders;
 use second::random::Random;
@@ -38,17 +39,20 @@ fn order(random: &mut Random, made: &Made) -> Vec<u32> {
     }
 }
 
-/// What the hash judge answers, if the second program answers the same and counts the same.
+/// What the hash judge answers, if the second program answers the same, counts the same and logs the same.
 fn agreed(made: &Made, kind: u32, limit: u64, order: &[u32]) -> Verdict {
     let question = Question::of(made, kind, limit, order);
     let (mut to_hash, mut to_second) = (LentToHash::to(&question), Lent::to(&question));
-    // A number that is left out has to be seen.
+    // A number that is left out has to be seen, and so has a record of the step of R.
     to_hash.occurrences.fill(u32::MAX);
+    to_hash.log.copy_from_slice(&marked_steps(order.len()));
+    to_second.log.copy_from_slice(&marked_steps(order.len()));
     let hash = by_hash(&question, &mut to_hash);
     let second = by_second(&question, &mut to_second);
     let asked = format!("{made:?}, kind {kind}, T {limit}, {order:?}");
     assert_eq!(hash, second, "{asked}");
     assert_eq!(to_hash.occurrences, to_second.occurrences, "{asked}");
+    assert_eq!(to_hash.log, to_second.log, "{asked}");
     hash
 }
 

@@ -30,6 +30,10 @@ static const uint32_t parity_table[] = {10, 0, 0, 0, 150, 1, 2, 3};
 static const uint32_t two_bit_table[] = {20, 16, 22, 18, 136, 2, 4, 0, 136, 3, 2, 0, 136, 1, 4, 0,
                                          102, 6, 7, 0,  128, 5, 6, 7, 136, 1, 3, 0, 120, 6, 7, 5};
 
+/* A gate that reads literal 0, one that reads the inverse of a twice; the parity of a_0 and b_0, and of a_0 thrice. */
+static const uint32_t zero_table[] = {6, 0, 5, 0}, twice_table[] = {6, 0, 3, 3};
+static const uint32_t constant_table[] = {10, 0, 0, 0, 150, 1, 0, 3}, thrice_table[] = {10, 0, 0, 0, 150, 1, 1, 1};
+
 /*
  * One bit that adds c: inputs a, b, c_0, c_1; gate 5 is ab, gate 8 its sum with c_0, gate 6 the carry, gate 11 the sum
  * of that with c_1. Then with c_0 left out, and as cells: an AND, two sums and the carry.
@@ -50,6 +54,11 @@ static const struct netlist p10 = {14, 4, 0, 4, 10, p10_table, 24, HRASKELL_GATE
 static const struct netlist one_cell = {3, 2, 0, 2, 1, cell_table, 6, HRASKELL_CELLS};
 static const struct netlist parity = {5, 4, 0, 4, 1, parity_table, 8, UINT32_MAX};
 static const struct netlist two_bit_cells = {11, 4, 0, 4, 7, two_bit_table, 32, HRASKELL_CELLS};
+
+static const struct netlist zero = {3, 2, 0, 2, 1, zero_table, 4, HRASKELL_GATES};
+static const struct netlist twice = {3, 2, 0, 2, 1, twice_table, 4, HRASKELL_GATES};
+static const struct netlist constant = {5, 4, 0, 4, 1, constant_table, 8, HRASKELL_CELLS};
+static const struct netlist thrice = {5, 4, 0, 4, 1, thrice_table, 8, HRASKELL_CELLS};
 
 static const struct netlist sum = {11, 4, 0, 2, 7, sum_table, 16, HRASKELL_GATES};
 static const struct netlist without_c0 = {11, 4, 0, 2, 7, wrong_sum_table, 16, HRASKELL_GATES};
@@ -79,7 +88,7 @@ static void mark_all(void)
     mark_words(scratch, COUNT(scratch));
     mark_words(answer, COUNT(answer));
     for (size_t at = 0; at < COUNT(records); at++)
-        records[at] = (struct hraskell_step){MARK, MARK};
+        records[at] = (struct hraskell_step){MARK, MARK, MARK};
     for (size_t at = 0; at < COUNT(occurrences); at++)
         occurrences[at] = MARK;
 }
@@ -94,11 +103,12 @@ static void expect_words(const char *what, const uint64_t *got, size_t lent, con
         expect(what, got[at], at < lent ? rest : MARK);
 }
 
-/* The first records have the gates of the order, and the others are marks. */
-static void expect_records(const char *what, const uint32_t *order, size_t steps)
+/* The first records have the gates of the order and the terms made, and the others are marks. */
+static void expect_records(const char *what, const uint32_t *order, const uint32_t *made, size_t steps)
 {
     for (size_t at = 0; at < COUNT(records); at++) {
         expect(what, records[at].gate, at < steps ? order[at] : MARK);
+        expect(what, records[at].made, at < steps ? made[at] : MARK);
         if (at >= steps)
             expect(what, records[at].terms, MARK);
     }
@@ -116,7 +126,7 @@ static void expect_all_marks(const char *what)
     expect_words(what, answer, HRASKELL_ANSWER_WORDS, NULL, 0, MARK);
     expect_words(what, store, STORE_WORDS, NULL, 0, MARK);
     expect_words(what, scratch, CELL_SCRATCH_WORDS, NULL, 0, MARK);
-    expect_records(what, NULL, 0);
+    expect_records(what, NULL, NULL, 0);
     expect_occurrences(what, NULL, 0);
 }
 
@@ -140,7 +150,10 @@ struct words {
 /* All terms, then the terms with variable 1, 2 and so on; the variables not named occur nowhere. */
 #define OCCURRING(...) (const uint32_t[OCCURRENCE_WORDS]){__VA_ARGS__}
 
-/* A call that is taken: its answer, the polynomial left, and how often each variable occurs in that. */
+/* Of each step the terms before gathering: those without the gate, and all that the replacement made. */
+#define MADE(...) (const uint32_t[STEPS]){__VA_ARGS__}
+
+/* A call that is taken: its answer, the polynomial left, how often each variable occurs in that, and what was made. */
 struct row {
     const char *what;
     const struct netlist *netlist;
@@ -149,61 +162,84 @@ struct row {
     size_t steps;
     uint32_t number;
     struct words answered, stored;
-    const uint32_t *occurring;
+    const uint32_t *occurring, *made;
 };
 
 static const struct row bench_sheet[] = {
-    {"P1", &p1, HRASKELL_PLAIN, one_step, 1, HRASKELL_EQUAL, WORDS(1, 0), NONE, OCCURRING(0)},
+    {"P1", &p1, HRASKELL_PLAIN, one_step, 1, HRASKELL_EQUAL, WORDS(1, 0), NONE, OCCURRING(0), MADE(2)},
     {"P3", &p3, HRASKELL_PLAIN, one_step, 1, HRASKELL_DIFFERS, WORDS(1, 1, 1, 1, 0, 3, 1), WORDS(2, 6),
-     OCCURRING(1, 1, 1)},
+     OCCURRING(1, 1, 1), MADE(2)},
     /* x3 - ab. */
     {"P6", &p1, HRASKELL_PLAIN, one_step, 0, HRASKELL_UNFINISHED, WORDS(0, 2), WORDS(1, 8, 3, 6),
-     OCCURRING(2, 1, 1, 1)},
-    /* a + b + 2ab. */
+     OCCURRING(2, 1, 1, 1), NULL},
+    /* 1 - x3 - ab, then a + b + 2ab: x3 made four. */
     {"P9", &p9, HRASKELL_PLAIN, one_step, 1, HRASKELL_DIFFERS, WORDS(1, 3, 1, 0, 0, 1, 0),
-     WORDS(2, 6, 1, 4, 1, 2), OCCURRING(3, 2, 2)},
-    {"P10", &p10, HRASKELL_PLAIN, DOWN_FROM(14), 10, HRASKELL_EQUAL, WORDS(10, 0), NONE, OCCURRING(0)},
+     WORDS(2, 6, 1, 4, 1, 2), OCCURRING(3, 2, 2), MADE(6)},
+    /* Gates 14, 13, 11 and 10 make four of each, and are in 1, 2, 1 and 2 of 8, 10, 8 and 10 terms. */
+    {"P10", &p10, HRASKELL_PLAIN, DOWN_FROM(14), 10, HRASKELL_EQUAL, WORDS(10, 0), NONE, OCCURRING(0),
+     MADE(11, 16, 13, 11, 16, 13, 8, 6, 4, 2)},
     /* x14 is 1 - x13 - x12 + x12 x13: 4 + x5 + 2 x11 + 4 x12 - 4 x13 + 4 x12 x13, less the four products. */
     {"P10, one step", &p10, HRASKELL_PLAIN, DOWN_FROM(14), 1, HRASKELL_UNFINISHED, WORDS(1, 10),
      WORDS(4, 12288, 12, 8192, 4, 4096, 2, 2048, 1, 32, 12, 20, 14, 18, 14, 12, 15, 10, 4, 0),
-     OCCURRING(10, 2, 2, 2, 2, 1, 0, 0, 0, 0, 0, 1, 2, 2)},
+     OCCURRING(10, 2, 2, 2, 2, 1, 0, 0, 0, 0, 0, 1, 2, 2), MADE(11)},
     /* Plain minus signed is 4 a_0 b_1 + 4 a_1 b_0: variables 1, 4 and 2, 3. */
     {"P11", &p10, HRASKELL_SIGNED, DOWN_FROM(14), 10, HRASKELL_DIFFERS, WORDS(10, 2, 2, 1, 0, 2, 14),
-     WORDS(4, 18, 4, 12), OCCURRING(2, 1, 1, 1, 1)},
+     WORDS(4, 18, 4, 12), OCCURRING(2, 1, 1, 1, 1), MADE(11, 16, 13, 11, 16, 13, 8, 6, 5, 4)},
 };
 
 static const struct row lookup_cells[] = {
-    {"P1 as a cell", &one_cell, HRASKELL_PLAIN, one_step, 1, HRASKELL_EQUAL, WORDS(1, 0), NONE, OCCURRING(0)},
+    {"P1 as a cell", &one_cell, HRASKELL_PLAIN, one_step, 1, HRASKELL_EQUAL, WORDS(1, 0), NONE, OCCURRING(0),
+     MADE(2)},
     /* a0 + a1 + b0 - 2 a0 a1 - 2 a0 b0 - 2 a1 b0 + 4 a0 a1 b0, less the four products, modulo 16. */
     {"byte 150", &parity, HRASKELL_PLAIN, five, 1, HRASKELL_DIFFERS, WORDS(1, 9, 1, 0, 0, 1, 0),
-     WORDS(12, 20, 14, 18, 4, 14, 12, 12, 13, 10, 1, 8, 14, 6, 1, 4, 1, 2), OCCURRING(9, 5, 5, 4, 2)},
+     WORDS(12, 20, 14, 18, 4, 14, 12, 12, 13, 10, 1, 8, 14, 6, 1, 4, 1, 2), OCCURRING(9, 5, 5, 4, 2), MADE(11)},
+    /* Cells 11 and 8 make three of one term, the others one. Before the steps are 8, 10, 8, 6, 6, 4 and 2 terms. */
     {"two bits of cells", &two_bit_cells, HRASKELL_PLAIN, DOWN_FROM(11), 7, HRASKELL_EQUAL, WORDS(7, 0), NONE,
-     OCCURRING(0)},
+     OCCURRING(0), MADE(10, 10, 8, 8, 6, 4, 2)},
     /* As P11: the block is right when plain, and the last polynomial is that of any such block. */
     {"the same under s", &two_bit_cells, HRASKELL_SIGNED, DOWN_FROM(11), 7, HRASKELL_DIFFERS,
-     WORDS(7, 2, 2, 1, 0, 2, 14), WORDS(4, 18, 4, 12), OCCURRING(2, 1, 1, 1, 1)},
+     WORDS(7, 2, 2, 1, 0, 2, 14), WORDS(4, 18, 4, 12), OCCURRING(2, 1, 1, 1, 1), MADE(10, 10, 8, 8, 6, 5, 4)},
+};
+
+/* Document 02, section 9: what is made before like terms meet. */
+static const struct row peaks[] = {
+    /* -ab, and x3 makes none. */
+    {"literal 0", &zero, HRASKELL_PLAIN, one_step, 1, HRASKELL_DIFFERS, WORDS(1, 1, 1, 1, 0, 0, 1), WORDS(3, 6),
+     OCCURRING(1, 1, 1), MADE(1)},
+    /* 1 - a - a + a - ab. */
+    {"one inverse twice", &twice, HRASKELL_PLAIN, one_step, 1, HRASKELL_DIFFERS, WORDS(1, 3, 0, 0, 0, 1, 0),
+     WORDS(3, 6, 3, 2, 1, 0), OCCURRING(3, 2, 1), MADE(5)},
+    /* a0 + b0 - 2 a0 b0, less the four products; the subsets with x2 make none. */
+    {"a constant false", &constant, HRASKELL_PLAIN, five, 1, HRASKELL_DIFFERS, WORDS(1, 6, 1, 0, 0, 1, 0),
+     WORDS(12, 20, 14, 18, 14, 12, 13, 10, 1, 8, 1, 2), OCCURRING(6, 3, 2, 3, 2), MADE(7)},
+    /* Seven terms with a0 alone, whose coefficients add up to 1, less the four products. */
+    {"one variable three times", &thrice, HRASKELL_PLAIN, five, 1, HRASKELL_DIFFERS, WORDS(1, 5, 1, 0, 0, 1, 0),
+     WORDS(12, 20, 14, 18, 14, 12, 15, 10, 1, 2), OCCURRING(5, 3, 2, 2, 2), MADE(11)},
 };
 
 /* Document 02, section 12: a·b + c modulo 4. Of one bit, -1·-1 is 1 as 1·1 is. */
 static const struct row multiply_and_add[] = {
-    {"a sum", &sum, HRASKELL_MULTIPLY_ADD, DOWN_FROM(11), 7, HRASKELL_EQUAL, WORDS(7, 0), NONE, OCCURRING(0)},
+    /* Gates 11, 10, 8 and 7 make four of each, and are in 1, 2, 1 and 2 of 5, 8, 4 and 6 terms. */
+    {"a sum", &sum, HRASKELL_MULTIPLY_ADD, DOWN_FROM(11), 7, HRASKELL_EQUAL, WORDS(7, 0), NONE, OCCURRING(0),
+     MADE(8, 14, 8, 7, 12, 7, 2)},
     {"a signed sum", &sum, HRASKELL_MULTIPLY_ADD_SIGNED, DOWN_FROM(11), 7, HRASKELL_EQUAL, WORDS(7, 0), NONE,
-     OCCURRING(0)},
+     OCCURRING(0), MADE(8, 14, 8, 7, 12, 7, 2)},
+    /* The exclusive or makes three of one term, also where -4 x7 c_1 vanishes. */
     {"a sum of cells", &cell_sum, HRASKELL_MULTIPLY_ADD, DOWN_FROM(8), 4, HRASKELL_EQUAL, WORDS(4, 0), NONE,
-     OCCURRING(0)},
+     OCCURRING(0), MADE(7, 4, 6, 2)},
     {"a signed sum of cells", &cell_sum, HRASKELL_MULTIPLY_ADD_SIGNED, DOWN_FROM(8), 4, HRASKELL_EQUAL,
-     WORDS(4, 0), NONE, OCCURRING(0)},
-    /* -c_0 is left: variable 3. */
+     WORDS(4, 0), NONE, OCCURRING(0), MADE(7, 4, 6, 2)},
+    /* x5 - ab - c_0, in which no gate but 5 occurs. -c_0 is left: variable 3. */
     {"c_0 left out", &without_c0, HRASKELL_MULTIPLY_ADD, DOWN_FROM(11), 7, HRASKELL_DIFFERS,
-     WORDS(7, 1, 0, 0, 1, 0, 1), WORDS(3, 8), OCCURRING(1, 0, 0, 1)},
+     WORDS(7, 1, 0, 0, 1, 0, 1), WORDS(3, 8), OCCURRING(1, 0, 0, 1), MADE(3, 3, 3, 3, 3, 3, 3)},
     {"c_0 left out, signed", &without_c0, HRASKELL_MULTIPLY_ADD_SIGNED, DOWN_FROM(11), 7, HRASKELL_DIFFERS,
-     WORDS(7, 1, 0, 0, 1, 0, 1), WORDS(3, 8), OCCURRING(1, 0, 0, 1)},
-    /* Under t x1 x2 + x3 + 2 x4 is shown, and x1 x3 + 2 x1 x4 + 2 x2 x3 is wanted. */
+     WORDS(7, 1, 0, 0, 1, 0, 1), WORDS(3, 8), OCCURRING(1, 0, 0, 1), MADE(3, 3, 3, 3, 3, 3, 3)},
+    /* Under t x1 x2 + x3 + 2 x4 is shown, and x1 x3 + 2 x1 x4 + 2 x2 x3 is wanted: 5, 8, 10, 6, 8, 11 and 6 terms. */
     {"a sum under t", &sum, HRASKELL_TRUNCATED, DOWN_FROM(11), 7, HRASKELL_DIFFERS, WORDS(7, 6, 0, 1, 0, 1, 0),
-     WORDS(2, 18, 2, 16, 2, 12, 3, 10, 1, 8, 1, 6), OCCURRING(6, 3, 2, 3, 2)},
+     WORDS(2, 18, 2, 16, 2, 12, 3, 10, 1, 8, 1, 6), OCCURRING(6, 3, 2, 3, 2), MADE(8, 14, 10, 9, 14, 11, 6)},
 };
 
-/* Answer, store, scratch and occurrences, and in the log the gates and the last terms. */
+/* Answer, store, scratch and occurrences, and in the log the gates, the last terms and all that were made. */
 static void judges(const struct row *rows, size_t count)
 {
     for (const struct row *row = rows; row < rows + count; row++) {
@@ -211,7 +247,7 @@ static void judges(const struct row *rows, size_t count)
         expect_words(row->what, answer, HRASKELL_ANSWER_WORDS, row->answered.words, row->answered.length, MARK);
         expect_words(row->what, store, STORE_WORDS, row->stored.words, row->stored.length, 0);
         expect_words(row->what, scratch, scratch_lent, NULL, 0, 0);
-        expect_records(row->what, row->order, row->steps);
+        expect_records(row->what, row->order, row->made, row->steps);
         if (row->steps)
             expect(row->what, records[row->steps - 1].terms, row->answered.words[1]);
         expect_occurrences(row->what, row->occurring, HRASKELL_OCCURRENCE_WORDS(row->netlist->m));
@@ -231,7 +267,7 @@ static void out_of_room(void)
     expect_occurrences("R at step 0", none, 25);
     expect("R at step 7", judge(&all_false, HRASKELL_TRUNCATED, falling, 7, 7), HRASKELL_OUT_OF_ROOM);
     expect_words("R at step 7", answer, HRASKELL_ANSWER_WORDS, at_step_7, 2, MARK);
-    expect_records("R at step 7", falling, 6);
+    expect_records("R at step 7", falling, MADE(12, 14, 18, 26, 42, 74), 6);
     expect_occurrences("R at step 7", held, 16);
 }
 
@@ -287,14 +323,14 @@ static void cells_refused(void)
     static const uint32_t own_first[] = {6, 0, 136, 3, 2, 0}, own_last[] = {6, 0, 136, 1, 2, 3};
     const struct netlist taken = {3, 2, 0, 2, 1, byte_255, 7, HRASKELL_CELLS};
     /* The cell is the constant 1, and ab is wanted. */
-    const struct row constant = {"byte 255", &taken, HRASKELL_PLAIN, one_step, 1, HRASKELL_DIFFERS,
-                                 WORDS(1, 2, 0, 0, 0, 1, 0), WORDS(3, 6, 1, 0), OCCURRING(2, 1, 1)};
+    const struct row always = {"byte 255", &taken, HRASKELL_PLAIN, one_step, 1, HRASKELL_DIFFERS,
+                               WORDS(1, 2, 0, 0, 0, 1, 0), WORDS(3, 6, 1, 0), OCCURRING(2, 1, 1), MADE(2)};
     const struct netlist past_byte = {3, 2, 0, 2, 1, byte_256, 6, HRASKELL_CELLS};
     const struct netlist reads_itself = {3, 2, 0, 2, 1, own_first, 6, UINT32_MAX};
     const struct netlist reads_itself_last = {3, 2, 0, 2, 1, own_last, 6, HRASKELL_CELLS};
     const struct netlist one_short = {3, 2, 0, 2, 1, cell_table, 5, HRASKELL_CELLS};
     const struct netlist as_long_as_gates = {3, 2, 0, 2, 1, cell_table, 4, UINT32_MAX};
-    judges(&constant, 1);
+    judges(&always, 1);
     refuses("byte 256", &past_byte, HRASKELL_PLAIN, one_step, 7, 108);
     refuses("cell that reads itself", &reads_itself, HRASKELL_PLAIN, one_step, 7, 108);
     refuses("cell that reads itself last", &reads_itself_last, HRASKELL_PLAIN, one_step, 7, 108);
@@ -361,13 +397,16 @@ static void numbers_of_the_header(void)
     expect("longest table of gates", HRASKELL_TABLE_WORDS_MOST, 64 + 2 * 1021);
     expect("longest table of cells", HRASKELL_CELL_TABLE_WORDS_MOST, 64 + 4 * 1021);
     expect("words of an answer", HRASKELL_ANSWER_WORDS, 7);
-    expect("bytes of a record", sizeof(struct hraskell_step), 8);
+    expect("bytes of a record", sizeof(struct hraskell_step), 12);
+    expect("place of the terms", offsetof(struct hraskell_step, terms), 4);
+    expect("place of the terms made", offsetof(struct hraskell_step, made), 8);
 }
 
 int main(void)
 {
     judges(bench_sheet, COUNT(bench_sheet));
     judges(lookup_cells, COUNT(lookup_cells));
+    judges(peaks, COUNT(peaks));
     judges(multiply_and_add, COUNT(multiply_and_add));
     out_of_room();
     refusals();

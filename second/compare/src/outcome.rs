@@ -66,10 +66,10 @@ impl Guarded<Step> {
         Guarded { words }
     }
 
-    /// Gate and terms of every record in turn, the guard records too, under the log's name.
+    /// The three numbers of every record in turn, the guard records too, under the log's name.
     pub fn records_named(&self, name: &'static str) -> Buffer {
-        let numbers = self.words.iter().flat_map(|step| [step.gate, step.terms]);
-        let words = numbers.map(u64::from).collect();
+        let three = |step: &Step| [step.gate, step.terms, step.made];
+        let words = self.words.iter().flat_map(three).map(u64::from).collect();
         Buffer { name, words }
     }
 }

@@ -4,9 +4,10 @@ use compare::mirror::{number_of, Mirror};
 use compare::outcome::{first_difference, numbers_given, Guarded, Outcome, GUARDS};
 use compare::{library, Question};
 use second::cases::adding::{one_bit, only_c};
-use second::cases::cells::{and_cell, cell};
+use second::cases::cells::{and_cell, cell, eight_of_one};
 use second::cases::judgements::{self, all_false, and_netlist, two_bits, JudgeCase};
-use second::cases::{marked_numbers, marked_words, occurrences, runs};
+use second::cases::peak::{most_made, read_twice};
+use second::cases::{marked_numbers, marked_steps, marked_words, occurrences, runs};
 use second::cell_netlists::gates_as_cells;
 use second::netlists::{random_for, random_sound, Made};
 use second::orders;
@@ -413,6 +414,79 @@ fn one_word_less_than_m_plus_1_is_refused_and_changes_nothing() {
         assert_eq!(outcome.number, 112, "{name}");
         let nobody = Call::new(case).outcome(|_, _| 112);
         assert!(outcome == nobody, "{name}: a word was changed");
+    }
+}
+
+/// A name, a case that is taken, and the terms after each step completed and before its gathering.
+type Logged = (&'static str, JudgeCase, &'static [(u32, u32)]);
+
+/// Numbers worked out by hand from documents 01 and 02, section 9.
+#[rustfmt::skip]
+fn logged_by_hand() -> Vec<Logged> {
+    let judged = |made: &Made, kind, order: &[u32]| JudgeCase::new(made, kind, 128, order.to_vec());
+    let and = |outputs: &[u32], kind, order: &[u32]| judged(&and_netlist(outputs), kind, order);
+    let gate = |rhs0, rhs1| judged(&Made::new(2, &[6, 0], &[(rhs0, rhs1)]), 0, &[3]);
+    let shown = |outputs: &[u32], cell| judged(&Made::of_cells(4, outputs, &[cell]), 0, &[5]);
+    let falling = |made: &Made, kind| judged(made, kind, &orders::falling(made.counts));
+    let [four, eight] = most_made();
+    vec![
+        ("P1", and(&[6, 0], 0, &[3]), &[(0, 2)]),
+        ("P2", and(&[6, 0], 1, &[3]), &[(0, 2)]),
+        ("P3", and(&[6, 6], 0, &[3]), &[(1, 2)]),
+        ("P4", and(&[6, 6], 1, &[3]), &[(1, 2)]),
+        ("P5", and(&[7, 0], 0, &[3]), &[(2, 3)]),
+        ("P6", and(&[6, 0], 0, &[]), &[]),
+        ("P7", and(&[6, 0], 0, &[3, 3]), &[(0, 2), (0, 0)]),
+        ("P8", and(&[6], 2, &[3]), &[(0, 2)]),
+        ("P9", judged(&Made::new(2, &[7, 0], &[(5, 3)]), 0, &[3]), &[(3, 6)]),
+        ("P5 with order 3, 3", and(&[7, 0], 0, &[3, 3]), &[(2, 3), (2, 2)]),
+        ("P10", falling(&two_bits(), 0),
+            &[(10, 11), (13, 16), (8, 13), (10, 11), (13, 16), (8, 13), (6, 8), (4, 6), (2, 4), (0, 2)]),
+        ("P11", falling(&two_bits(), 1),
+            &[(10, 11), (13, 16), (8, 13), (10, 11), (13, 16), (8, 13), (6, 8), (5, 6), (4, 5), (2, 4)]),
+        ("literal 0", gate(5, 0), &[(1, 1)]),
+        ("literal 1", gate(1, 1), &[(2, 2)]),
+        ("an inverted literal", gate(3, 1), &[(3, 3)]),
+        ("one inverted literal twice", gate(3, 3), &[(3, 5)]),
+        ("a literal and its inverse", gate(3, 2), &[(1, 3)]),
+        // Two terms with the gate, and four products.
+        ("four of each", judged(&read_twice((3, 3)), 0, &[7, 6, 5]), &[(6, 6), (6, 6), (7, 12)]),
+        ("four of all", judged(&four, 0, &[3, 4]), &[(1, 3), (4, 4)]),
+        ("eight of all", judged(&eight, 0, &[3, 4]), &[(1, 3), (8, 8)]),
+        // Four products, and seven coefficients that are not 0; modulo 16 four of them vanish at output 3.
+        ("byte 150", shown(&[10, 0, 0, 0], cell(150, 1, 2, 3)), &[(9, 11)]),
+        ("byte 150 at output 3", shown(&[0, 0, 0, 10], cell(150, 1, 2, 3)), &[(7, 11)]),
+        ("byte 150 with a constant", shown(&[10, 0, 0, 0], cell(150, 1, 0, 3)), &[(6, 7)]),
+        ("byte 150 on one variable", shown(&[10, 0, 0, 0], cell(150, 1, 1, 1)), &[(5, 11)]),
+        ("byte 254 on constants", shown(&[10, 0, 0, 0], cell(254, 0, 0, 0)), &[(4, 4)]),
+        // Ten products below 2^4 throughout; the steps of R have no record.
+        ("R at step 7", falling(&all_false(), 2), &[(12, 12), (14, 14), (18, 18), (26, 26), (42, 42), (74, 74)]),
+        ("R at step 4, of cells", falling(&eight_of_one(), 2), &[(11, 11), (14, 14), (42, 42)]),
+        ("a sum", falling(&one_bit(&[16, 22]), 3), &[(8, 8), (8, 14), (4, 8), (6, 7), (7, 12), (2, 7), (0, 2)]),
+    ]
+}
+
+#[test]
+fn steps_are_logged_as_by_hand_and_records_past_them_kept() {
+    for (name, mut case, expected) in logged_by_hand() {
+        case.log_records += 2;
+        let outcome = Call::new(case.clone()).by_library();
+        assert!(outcome.number <= 3, "{name}: {}", outcome.number);
+        let mut records = marked_steps(case.log_records + GUARDS);
+        for (place, &(terms, made)) in expected.iter().enumerate() {
+            let gate = case.order[place];
+            records[place] = Step { gate, terms, made };
+        }
+        let logged: Vec<Step> = outcome
+            .words("log")
+            .chunks(3)
+            .map(|numbers| Step {
+                gate: numbers[0] as u32,
+                terms: numbers[1] as u32,
+                made: numbers[2] as u32,
+            })
+            .collect();
+        assert_eq!(logged, records, "{name}");
     }
 }
 

@@ -2,7 +2,7 @@
 
 use super::pairs::wrong_netlists;
 use super::texts::made_at_limits;
-use super::{adding, cells, marked_numbers, marked_steps, marked_words, occurrences};
+use super::{adding, cells, marked_numbers, marked_steps, marked_words, occurrences, peak};
 use crate::judge::{judge_by, Answer};
 use crate::netlists::{random_for, right_multiplier, with_fault, Made};
 use crate::orders;
@@ -143,6 +143,7 @@ pub fn edges() -> Vec<JudgeCase> {
     cases.extend(cells::judgements());
     cases.extend(adding::judgements());
     cases.extend(occurrences::judgements());
+    cases.extend(peak::judgements());
     cases
 }
 

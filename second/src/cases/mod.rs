@@ -11,6 +11,7 @@ pub mod desks;
 pub mod judgements;
 pub mod occurrences;
 pub mod pairs;
+pub mod peak;
 pub mod runs;
 pub mod texts;
 pub mod wrong;
@@ -29,13 +30,14 @@ pub fn marked_numbers(count: usize) -> Vec<u32> {
     (0..count as u32).map(|place| 0xa5a5_0000 + place).collect()
 }
 
-/// The same for records; gate and terms have marks of their own.
+/// The same for records; each of the three numbers has marks of its own.
 pub fn marked_steps(count: usize) -> Vec<Step> {
-    marked_numbers(2 * count)
-        .chunks(2)
+    marked_numbers(3 * count)
+        .chunks(3)
         .map(|mark| Step {
             gate: mark[0],
             terms: mark[1],
+            made: mark[2],
         })
         .collect()
 }

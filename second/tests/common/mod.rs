@@ -43,9 +43,10 @@ pub fn holds(store: &[u64], words: &[u64]) -> bool {
     store[..words.len()] == *words && store[words.len()..].iter().all(|&word| word == 0)
 }
 
-/// The records with these gates and terms.
-pub fn records(gates: &[u32], terms: &[u32]) -> Vec<Step> {
-    assert_eq!(gates.len(), terms.len());
-    let both = gates.iter().zip(terms);
-    both.map(|(&gate, &terms)| Step { gate, terms }).collect()
+/// The records with these gates, terms after each step, and terms before gathering.
+pub fn records(gates: &[u32], terms: &[u32], peaks: &[u32]) -> Vec<Step> {
+    assert_eq!((gates.len(), gates.len()), (terms.len(), peaks.len()));
+    let all = gates.iter().zip(terms).zip(peaks);
+    all.map(|((&gate, &terms), &made)| Step { gate, terms, made })
+        .collect()
 }

@@ -458,8 +458,8 @@ module _ {M : Type 1} (𝓤 : URA M) (H : Heap 𝓤) (A : Atoms 𝓤) (W : Given
             move ! (11 ∷ 9 ∷ 8 ∷ 6 ∷ 5 ∷ 3 ∷ 2 ∷ 0 ∷ 14 ∷ 16 ∷ 12 ∷ 17 ∷ []) $ group ! 12 $ use1 W (raw (RunC 𝓤 H A at-mem run .pre (to-run μ ε ss₁ μ′ ε′ zs₁ μ″ ε″ μ₅ ε₅ ns₁ (r .held)))) (goes-run μ ε ss₁ μ′ ε′ zs₁ μ″ ε″ μ₅ ε₅ ns₁ (r .held) h-fits (run-ready c table kind limit order ss₀ zs₀ ns₀ ls₀ out on)) $
             calls-at ! fm (RunC 𝓤 H A at-mem run) known-run (to-run μ ε ss₁ μ′ ε′ zs₁ μ″ ε″ μ₅ ε₅ ns₁ (r .held)) (and-then ! (load ! (from ! (stop !)) (look ! 63 refl)) (and-then ! (load ! (from ! (stop !)) (look ! 61 refl)) (and-then ! (load ! (from ! (stop !)) (look ! 41 refl)) (and-then ! (load ! (from ! (stop !)) (look ! 55 refl)) (and-then ! (load ! (from ! (fld ! refl (stop !))) (look-in ! 45 (sub ! 2 refl (whole !)))) (and-then ! (load ! (from ! (stop !)) (look ! 23 refl)) (and-then ! (load ! (from ! (stop !)) (look ! 19 refl)) (and-then ! (load ! (from ! (stop !)) (look ! 15 refl)) (and-then ! (load ! (from ! (stop !)) (look ! 11 refl)) (no-more !)))))))))) (λ w′.
             use1 W (later (some (λ (ran : Ran). ((‵ (flft κ₀ q₀) ⊛ ‵ (flft κ₁ q₁) ⊛ ‵ (flft (μ ∷ []) fullShare) ⊛ ‵ (flft (μ′ ∷ []) fullShare) ⊛ ‵ (flft (μ″ ∷ []) fullShare) ⊛ ‵ (flft (μ₅ ∷ []) fullShare) ⊛ ‵ ftrue) ⊛ ‵ (N.the-row .own ran (w′ ∷ []))) ⊛ raw (ensured 𝓤 H A run′.ended (run′.clauses 𝓤 H A at-mem run) (κ₀, (κ₁, (μ ∷ [], (μ′ ∷ [], (μ″ ∷ [], (μ₅ ∷ [], tt)))))) (c, (xt, (limit, (xo, (r .held, (xs ε ss₁, (xz ε′ zs₁, (xl ε″ ls₀, (xn ε₅ ns₁, tt))))))))) tt ran)))) (id⊢ 𝓤 _) $ await ! tt $ pick ! (λ ran.
-            split ! $ move ! (1 ∷ []) $ use1 W (some (λ (ps : Unit {0} × (Unit {0} × (Unit {0} × (Unit {0} × (Unit {0} × (List ℕ × (List ℕ × (List StepRecord × (List ℕ × Unit {0}))))))))). ‵ (lasts run′.ended (κ₀, (κ₁, (μ ∷ [], (μ′ ∷ [], (μ″ ∷ [], (μ₅ ∷ [], tt)))))) (c, (xt, (limit, (xo, (r .held, (xs ε ss₁, (xz ε′ zs₁, (xl ε″ ls₀, (xn ε₅ ns₁, tt))))))))) ps) ⊛ raw (fact 𝓤 (Finished c limit order (trail (2 ^ c .o) c table (decoded (set-width c) (r .held) ss₁) order) ss₁ zs₁ ls₀ ns₁ ran (ps .1 .1 .1 .1 .1 .0) (ps .1 .1 .1 .1 .1 .1 .0) (ps .1 .1 .1 .1 .1 .1 .1 .0) (ps .1 .1 .1 .1 .1 .1 .1 .1 .0))))) (id⊢ 𝓤 _) $ pick ! (λ ps.
-            split ! $ move ! (1 ∷ []) $ heard ! (Finished c limit order (trail (2 ^ c .o) c table (decoded (set-width c) (r .held) ss₁) order) ss₁ zs₁ ls₀ ns₁ ran (ps .1 .1 .1 .1 .1 .0) (ps .1 .1 .1 .1 .1 .1 .0) (ps .1 .1 .1 .1 .1 .1 .1 .0) (ps .1 .1 .1 .1 .1 .1 .1 .1 .0)) (λ finished. fsplit ! $ move ! (1 ∷ []) $ fsplit ! $ move ! (1 ∷ []) $ fsplit ! $ move ! (1 ∷ []) $ fsplit ! $ move ! (1 ∷ []) $ fsplit ! $ move ! (1 ∷ []) $ fsplit ! $ fsplit ! $ move ! (1 ∷ []) $ feqL ! (λ f-s. move ! (1 ∷ []) $ fsplit ! $ fsplit ! $ move ! (1 ∷ []) $ feqL ! (λ f-z. move ! (1 ∷ []) $ fsplit ! $ fsplit ! $ move ! (1 ∷ []) $ feqL ! (λ f-l. move ! (1 ∷ []) $ fsplit ! $ fsplit ! $ move ! (1 ∷ []) $ feqL ! (λ f-n.
+            split ! $ move ! (1 ∷ []) $ use1 W (some (λ (ps : Unit {0} × (Unit {0} × (Unit {0} × (Unit {0} × (Unit {0} × (List ℕ × (List ℕ × (List StepRecord × (List ℕ × Unit {0}))))))))). ‵ (lasts run′.ended (κ₀, (κ₁, (μ ∷ [], (μ′ ∷ [], (μ″ ∷ [], (μ₅ ∷ [], tt)))))) (c, (xt, (limit, (xo, (r .held, (xs ε ss₁, (xz ε′ zs₁, (xl ε″ ls₀, (xn ε₅ ns₁, tt))))))))) ps) ⊛ raw (fact 𝓤 (Finished c table limit order (trail (2 ^ c .o) c table (decoded (set-width c) (r .held) ss₁) order) ss₁ zs₁ ls₀ ns₁ ran (ps .1 .1 .1 .1 .1 .0) (ps .1 .1 .1 .1 .1 .1 .0) (ps .1 .1 .1 .1 .1 .1 .1 .0) (ps .1 .1 .1 .1 .1 .1 .1 .1 .0))))) (id⊢ 𝓤 _) $ pick ! (λ ps.
+            split ! $ move ! (1 ∷ []) $ heard ! (Finished c table limit order (trail (2 ^ c .o) c table (decoded (set-width c) (r .held) ss₁) order) ss₁ zs₁ ls₀ ns₁ ran (ps .1 .1 .1 .1 .1 .0) (ps .1 .1 .1 .1 .1 .1 .0) (ps .1 .1 .1 .1 .1 .1 .1 .0) (ps .1 .1 .1 .1 .1 .1 .1 .1 .0)) (λ finished. fsplit ! $ move ! (1 ∷ []) $ fsplit ! $ move ! (1 ∷ []) $ fsplit ! $ move ! (1 ∷ []) $ fsplit ! $ move ! (1 ∷ []) $ fsplit ! $ move ! (1 ∷ []) $ fsplit ! $ fsplit ! $ move ! (1 ∷ []) $ feqL ! (λ f-s. move ! (1 ∷ []) $ fsplit ! $ fsplit ! $ move ! (1 ∷ []) $ feqL ! (λ f-z. move ! (1 ∷ []) $ fsplit ! $ fsplit ! $ move ! (1 ∷ []) $ feqL ! (λ f-l. move ! (1 ∷ []) $ fsplit ! $ fsplit ! $ move ! (1 ∷ []) $ feqL ! (λ f-n.
             move ! (10 ∷ []) $ split ! $ move ! (1 ∷ []) $ peeks ! N.the-row (Is N.the-row) (shows 𝓤 H A N.the-row) ran (w′ ∷ []) (λ is-ran.
             land ! (from ! (stop !)) (init ! 54 refl (LL.lawful N.the-type N′.the-laws 𝓤 H A W .typed ran _ is-ran .0)) $
             move ! (1 ∷ []) $ split ! $ move ! (1 ∷ []) $ split ! $ move ! (1 ∷ []) $ split ! $ lft-end ! tt $ move ! (0 ∷ 18 ∷ 9 ∷ []) $

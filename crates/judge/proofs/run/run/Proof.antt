@@ -50,7 +50,7 @@ use denote.Triple.Walked.{says, needs, Stays, stay-dropped, stay-slice, walkOf, 
 use denote.Exit.{yes}
 use Rattle.rules.specs.Each.{every}
 use Rattle.rules.specs.Judging.{is-gate, set-width}
-use Rattle.rules.specs.Steps.{step, trail}
+use Rattle.rules.specs.Steps.{made as made-by, step, trail}
 use Rattle.rules.specs.declared.answers.StepRecord.{StepRecord}
 use Rattle.rules.specs.declared.counts.Counts.{Counts}
 use Rattle.rules.proofs.answers.StepRecord as S
@@ -274,7 +274,7 @@ module _ {M : Type 1} (𝓤 : URA M) (H : Heap 𝓤) (A : Atoms 𝓤) (W : Given
   made f k left k-fits left-fits = LL.owes N.the-type N′.the-laws (ran f k left) (refl, ((refl, k-fits), ((refl, left-fits), tt)))
 
   abbrev Ends : Ran → List ℕ → List ℕ → List StepRecord → List ℕ → Type 0
-  Ends r s z l u = Finished c limit order (trail (2 ^ c .o) c table (decoded (set-width c) held ss₀) order) ss₀ zs₀ ls₀ ns₀ r s z l u
+  Ends r s z l u = Finished c table limit order (trail (2 ^ c .o) c table (decoded (set-width c) held ss₀) order) ss₀ zs₀ ls₀ ns₀ r s z l u
 
   exits : (f : Bool) (k left : ℕ) → k < 2 ^ 64 → left < 2 ^ 64 → (s : List ℕ) (m : ℕ) (z : List ℕ) (m′ : ℕ) (l : List StepRecord) (u : List ℕ) (m″ : ℕ)
       → m ≡ length ss₀ → m′ ≡ length zs₀ → m″ ≡ length ns₀ → length s ≡ length ss₀ → length z ≡ length zs₀ → length l ≡ length ls₀ → length u ≡ length ns₀
@@ -332,15 +332,18 @@ module _ {M : Type 1} (𝓤 : URA M) (H : Heap 𝓤) (A : Atoms 𝓤) (W : Given
   terms-fit : (r : Turn) {w : Val} → Is U.the-row r (w ∷ []) → r .terms < 2 ^ 64
   terms-fit r g = LL.owed U.the-type U′.the-laws r _ g .1 .1 .0 .1
 
-  -- the same of `put_record`
-  abbrev to-put : ℕ → GName → List StepRecord → ℕ → ℕ → ℕ → Put 𝓤 H A at-mem run .Ghost
-  to-put ν δ l k v r = (((ν ∷ [], tt), (fullShare, tt), tt, (xl δ l, (k, (v, (r, tt)))), (vl (length l) ∷ [], (vint w64 k ∷ [], (vint w32 v ∷ [], (vint w32 r ∷ [], tt))))), tt)
+  peak-fits : (r : Turn) {w : Val} → Is U.the-row r (w ∷ []) → r .made < 2 ^ 32
+  peak-fits r g = LL.owed U.the-type U′.the-laws r _ g .1 .1 .1 .0 .1
 
-  goes-put : (ν : ℕ) (δ : GName) (l : List StepRecord) (k v r : ℕ) → k < 2 ^ 64 → v < 2 ^ 32 → r < 2 ^ 32 → k < length l
-      → ent 𝓤 (sep 𝓤 (A .lft (ν ∷ []) fullShare) (sem 𝓤 H A (MutSlice (named 0) (ν ∷ []) R .own (xl δ l) (vl (length l) ∷ [])))) (Put 𝓤 H A at-mem run .pre (to-put ν δ l k v r))
-  goes-put ν δ l k v r k-fits v-fits r-fits within =
+  -- the same of `put_record`
+  abbrev to-put : ℕ → GName → List StepRecord → ℕ → ℕ → ℕ → ℕ → Put 𝓤 H A at-mem run .Ghost
+  to-put ν δ l k v r p = (((ν ∷ [], tt), (fullShare, tt), tt, (xl δ l, (k, (v, (r, (p, tt))))), (vl (length l) ∷ [], (vint w64 k ∷ [], (vint w32 v ∷ [], (vint w32 r ∷ [], (vint w32 p ∷ [], tt)))))), tt)
+
+  goes-put : (ν : ℕ) (δ : GName) (l : List StepRecord) (k v r p : ℕ) → k < 2 ^ 64 → v < 2 ^ 32 → r < 2 ^ 32 → p < 2 ^ 32 → k < length l
+      → ent 𝓤 (sep 𝓤 (A .lft (ν ∷ []) fullShare) (sem 𝓤 H A (MutSlice (named 0) (ν ∷ []) R .own (xl δ l) (vl (length l) ∷ [])))) (Put 𝓤 H A at-mem run .pre (to-put ν δ l k v r p))
+  goes-put ν δ l k v r p k-fits v-fits r-fits p-fits within =
       qed W (‵ (flft (ν ∷ []) fullShare) ∷ ‵ (MutSlice (named 0) (ν ∷ []) R .own (xl δ l) (vl (length l) ∷ [])) ∷ []) ∵ says ! within $ nothing ! $ move ! (1 ∷ 0 ∷ []) $ join ! $ frame ! $
-      nothing ! $ owned ! u32 (Is u32) (uint-makes 𝓤 H A W w32) r _ (refl, r-fits) $ fjoin ! $ owned ! u32 (Is u32) (uint-makes 𝓤 H A W w32) v _ (refl, v-fits) $ fjoin ! $
+      nothing ! $ owned ! u32 (Is u32) (uint-makes 𝓤 H A W w32) p _ (refl, p-fits) $ fjoin ! $ owned ! u32 (Is u32) (uint-makes 𝓤 H A W w32) r _ (refl, r-fits) $ fjoin ! $ owned ! u32 (Is u32) (uint-makes 𝓤 H A W w32) v _ (refl, v-fits) $ fjoin ! $
       owned ! usize (Is usize) (uint-makes 𝓤 H A W w64) k _ (refl, k-fits) $ fjoin ! $ move ! (1 ∷ 0 ∷ []) $ fjoin ! $ done !
 
   module _ (𝓣 : Tables 𝓤 H) (known-turn : Triple 𝓤 (𝓣 .C #judge·turn·take-turn) (TurnC 𝓤 H A at-mem run)) (known-put : Triple 𝓤 (𝓣 .C #judge·log·put-record) (Put 𝓤 H A at-mem run))
@@ -457,8 +460,8 @@ module _ {M : Type 1} (𝓤 : URA M) (H : Heap 𝓤) (A : Atoms 𝓤) (W : Given
 
         -- the next turn, from what the two calls said
         module _ (here : k < n) (r : Turn) (ss′ zs′ : List ℕ) (ms : List StepRecord) (ns′ : List ℕ)
-            (said : Turned c limit left v (step (2 ^ c .o) c table v (decoded (set-width c) left ss)) ss zs ns r ss′ zs′ ns′) (went : r .fits ≡ true)
-            (put-said : ms ≡ set ls k (record { gate = r .gate; terms = r .terms })) where
+            (said : Turned c limit left v (made-by (2 ^ c .o) c table v (decoded (set-width c) left ss)) (step (2 ^ c .o) c table v (decoded (set-width c) left ss)) ss zs ns r ss′ zs′ ns′) (went : r .fits ≡ true)
+            (put-said : ms ≡ set ls k (record { gate = r .gate; terms = r .terms; made = r .made })) where
           abbrev next : Place begin
           next =
               record { at = k + 1; left = r .terms; store = ss′; scratch = zs′; log = ms; occurrences = ns′; going = rw put-said (going-more (t .going) here gates said enough went) }
@@ -468,7 +471,7 @@ module _ {M : Type 1} (𝓤 : URA M) (H : Heap 𝓤) (A : Atoms 𝓤) (W : Given
 
         -- the terms after a turn with room fit a record
         few-fit : (here : k < n) (r : Turn) (ss′ zs′ ns′ : List ℕ)
-            → Turned c limit left v (step (2 ^ c .o) c table v (decoded (set-width c) left ss)) ss zs ns r ss′ zs′ ns′ → r .fits ≡ true → r .terms < 2 ^ 32
+            → Turned c limit left v (made-by (2 ^ c .o) c table v (decoded (set-width c) left ss)) (step (2 ^ c .o) c table v (decoded (set-width c) left ss)) ss zs ns r ss′ zs′ ns′ → r .fits ≡ true → r .terms < 2 ^ 32
         few-fit here r ss′ zs′ ns′ said went =
             let more = going-more (t .going) here gates said enough went in
             omega (arith, more .running .few, more .running .taken)
@@ -507,8 +510,8 @@ module _ {M : Type 1} (𝓤 : URA M) (H : Heap 𝓤) (A : Atoms 𝓤) (W : Given
             move ! (8 ∷ 6 ∷ 5 ∷ 3 ∷ 2 ∷ 0 ∷ 9 ∷ 13 ∷ []) $ group ! 8 $ use1 W (raw (TurnC 𝓤 H A at-mem run .pre (to-turn ν δ ss ν′ δ′ zs ν₅ δ₅ ns v left))) (goes-turn is-c ν δ ss ν′ δ′ zs ν₅ δ₅ ns v left (g .1) limit-fits left-fits (going-ready (t .going) here gates)) $
             calls-at ! fm (TurnC 𝓤 H A at-mem run) known-turn (to-turn ν δ ss ν′ δ′ zs ν₅ δ₅ ns v left) (and-then ! (load ! (from ! (stop !)) (look ! 59 refl)) (and-then ! (load ! (from ! (stop !)) (look ! 57 refl)) (and-then ! (load ! (from ! (stop !)) (look ! 37 refl)) (and-then ! (load ! (from ! (stop !)) (look ! 55 refl)) (and-then ! (load ! (from ! (stop !)) (look ! 41 refl)) (and-then ! (load ! (from ! (stop !)) (look ! 23 refl)) (and-then ! (load ! (from ! (stop !)) (look ! 19 refl)) (and-then ! (load ! (from ! (stop !)) (look ! 15 refl)) (no-more !))))))))) (λ w.
             use1 W (later (some (λ (r : Turn). ((‵ (flft κ₀ q₀) ⊛ ‵ (flft (ν ∷ []) fullShare) ⊛ ‵ (flft (ν′ ∷ []) fullShare) ⊛ ‵ (flft (ν₅ ∷ []) fullShare) ⊛ ‵ ftrue) ⊛ ‵ (U.the-row .own r (w ∷ []))) ⊛ raw (ensured 𝓤 H A turn.ended (turn.clauses 𝓤 H A at-mem run) (κ₀, (ν ∷ [], (ν′ ∷ [], (ν₅ ∷ [], tt)))) (c, (xt, (v, (limit, (left, (xs δ ss, (xz δ′ zs, (xn δ₅ ns, tt)))))))) tt r)))) (id⊢ 𝓤 _) $ await ! tt $ pick ! (λ r.
-            split ! $ move ! (1 ∷ []) $ use1 W (some (λ (os : Unit {0} × (Unit {0} × (Unit {0} × (Unit {0} × (Unit {0} × (List ℕ × (List ℕ × (List ℕ × Unit {0})))))))). ‵ (lasts turn.ended (κ₀, (ν ∷ [], (ν′ ∷ [], (ν₅ ∷ [], tt)))) (c, (xt, (v, (limit, (left, (xs δ ss, (xz δ′ zs, (xn δ₅ ns, tt)))))))) os) ⊛ raw (fact 𝓤 (Turned c limit left v (step (2 ^ c .o) c table v (decoded (set-width c) left ss)) ss zs ns r (os .1 .1 .1 .1 .1 .0) (os .1 .1 .1 .1 .1 .1 .0) (os .1 .1 .1 .1 .1 .1 .1 .0))))) (id⊢ 𝓤 _) $ pick ! (λ os.
-            split ! $ move ! (1 ∷ []) $ heard ! (Turned c limit left v (step (2 ^ c .o) c table v (decoded (set-width c) left ss)) ss zs ns r (os .1 .1 .1 .1 .1 .0) (os .1 .1 .1 .1 .1 .1 .0) (os .1 .1 .1 .1 .1 .1 .1 .0)) (λ said. fsplit ! $ move ! (1 ∷ []) $ fsplit ! $ move ! (1 ∷ []) $ fsplit ! $ move ! (1 ∷ []) $ fsplit ! $ move ! (1 ∷ []) $ fsplit ! $ move ! (1 ∷ []) $ fsplit ! $ fsplit ! $ move ! (1 ∷ []) $ feqL ! (λ l-s. move ! (1 ∷ []) $ fsplit ! $ fsplit ! $ move ! (1 ∷ []) $ feqL ! (λ l-z. move ! (1 ∷ []) $ fsplit ! $ fsplit ! $ move ! (1 ∷ []) $ feqL ! (λ l-n.
+            split ! $ move ! (1 ∷ []) $ use1 W (some (λ (os : Unit {0} × (Unit {0} × (Unit {0} × (Unit {0} × (Unit {0} × (List ℕ × (List ℕ × (List ℕ × Unit {0})))))))). ‵ (lasts turn.ended (κ₀, (ν ∷ [], (ν′ ∷ [], (ν₅ ∷ [], tt)))) (c, (xt, (v, (limit, (left, (xs δ ss, (xz δ′ zs, (xn δ₅ ns, tt)))))))) os) ⊛ raw (fact 𝓤 (Turned c limit left v (made-by (2 ^ c .o) c table v (decoded (set-width c) left ss)) (step (2 ^ c .o) c table v (decoded (set-width c) left ss)) ss zs ns r (os .1 .1 .1 .1 .1 .0) (os .1 .1 .1 .1 .1 .1 .0) (os .1 .1 .1 .1 .1 .1 .1 .0))))) (id⊢ 𝓤 _) $ pick ! (λ os.
+            split ! $ move ! (1 ∷ []) $ heard ! (Turned c limit left v (made-by (2 ^ c .o) c table v (decoded (set-width c) left ss)) (step (2 ^ c .o) c table v (decoded (set-width c) left ss)) ss zs ns r (os .1 .1 .1 .1 .1 .0) (os .1 .1 .1 .1 .1 .1 .0) (os .1 .1 .1 .1 .1 .1 .1 .0)) (λ said. fsplit ! $ move ! (1 ∷ []) $ fsplit ! $ move ! (1 ∷ []) $ fsplit ! $ move ! (1 ∷ []) $ fsplit ! $ move ! (1 ∷ []) $ fsplit ! $ move ! (1 ∷ []) $ fsplit ! $ fsplit ! $ move ! (1 ∷ []) $ feqL ! (λ l-s. move ! (1 ∷ []) $ fsplit ! $ fsplit ! $ move ! (1 ∷ []) $ feqL ! (λ l-z. move ! (1 ∷ []) $ fsplit ! $ fsplit ! $ move ! (1 ∷ []) $ feqL ! (λ l-n.
             -- [the last occurrences; true; the last scratch; the last store; true, five times; the tokens and the result; the lender's parts of occurrences, scratch and store; table; log; κ₄; order; κ₁; _26; …]
             move ! (9 ∷ []) $ split ! $ move ! (1 ∷ []) $ peeks ! U.the-row (Is U.the-row) (shows 𝓤 H A U.the-row) r (w ∷ []) (λ is.
             land ! (from ! (stop !)) (init ! 45 refl (LL.lawful U.the-type U′.the-laws 𝓤 H A W .typed r _ is .0)) $ rewrite ! 45 (λ (u : Val). ‵ (fat fullShare U′.mir l₁₃ 0 u)) (ap only (LL.tells U.the-type U′.the-laws r _ is)) refl $
@@ -534,11 +537,11 @@ module _ {M : Type 1} (𝓤 : URA M) (H : Heap 𝓤) (A : Atoms 𝓤) (W : Given
             assigns ! (un ! (load ! (from ! (fld ! refl (stop !))) (look-in ! 38 (sub ! 2 refl (whole !)))) (record { fits = few-fit here r (os .1 .1 .1 .1 .1 .0) (os .1 .1 .1 .1 .1 .1 .0) (os .1 .1 .1 .1 .1 .1 .1 .0) said (is-true (r .fits) went) })) (from ! (stop !)) (store ! 30 refl (tt, record { fits = few-fit here r (os .1 .1 .1 .1 .1 .0) (os .1 .1 .1 .1 .1 .1 .0) (os .1 .1 .1 .1 .1 .1 .1 .0) said (is-true (r .fits) went) })) $
             lft-new ! tt (λ ν″. move ! (5 ∷ 6 ∷ []) $
             use2 W (later (some (λ (δ″ : GName). ‵ (MutSlice (named 0) (ν″ ∷ []) R .own (xl δ″ ls) (vl (length ls) ∷ [])) ⊛ ‵ (LentAgain R κ₄ (ν″ ∷ []) q₄ γ₄ b₄ o₄ δ″ ls)))) (lends-again R κ₄ (ν″ ∷ []) q₄ γ₄ b₄ o₄ 𝓤 H A W (named 4) (named 0) ls) $ await ! tt $ pick ! (λ δ″. split ! $
-            move ! (2 ∷ 0 ∷ []) $ use2 W (raw (Put 𝓤 H A at-mem run .pre (to-put ν″ δ″ ls k (r .gate) (r .terms)))) (goes-put ν″ δ″ ls k (r .gate) (r .terms) at-fits (gate-fits r is) (few-fit here r (os .1 .1 .1 .1 .1 .0) (os .1 .1 .1 .1 .1 .1 .0) (os .1 .1 .1 .1 .1 .1 .1 .0) said (is-true (r .fits) went)) (within here)) $
-            calls-at ! fm (Put 𝓤 H A at-mem run) known-put (to-put ν″ δ″ ls k (r .gate) (r .terms)) (and-then ! (load ! (from ! (stop !)) (look ! 12 refl)) (and-then ! (load ! (from ! (stop !)) (look ! 42 refl)) (and-then ! (load ! (from ! (fld ! refl (stop !))) (look-in ! 38 (sub ! 1 refl (whole !)))) (and-then ! (load ! (from ! (stop !)) (look ! 30 refl)) (no-more !))))) (λ w′.
-            use1 W (later (some (λ (u : Unit {0}). ((‵ (flft (ν″ ∷ []) fullShare) ⊛ ‵ ftrue) ⊛ ‵ (unit .own u (w′ ∷ []))) ⊛ raw (ensured 𝓤 H A put.ended (put.clauses 𝓤 H A at-mem run) (ν″ ∷ [], tt) (xl δ″ ls, (k, (r .gate, (r .terms, tt)))) tt u)))) (id⊢ 𝓤 _) $ await ! tt $ pick ! (λ u.
-            split ! $ move ! (1 ∷ []) $ use1 W (some (λ (ms : List StepRecord × (Unit {0} × (Unit {0} × (Unit {0} × Unit {0})))). ‵ (lasts put.ended (ν″ ∷ [], tt) (xl δ″ ls, (k, (r .gate, (r .terms, tt)))) ms) ⊛ raw (fact 𝓤 (ms .0 ≡ set ls k (record { gate = r .gate; terms = r .terms }))))) (id⊢ 𝓤 _) $ pick ! (λ ms.
-            split ! $ move ! (1 ∷ []) $ heard ! (ms .0 ≡ set ls k (record { gate = r .gate; terms = r .terms })) (λ put-said. fsplit ! $ fsplit ! $ move ! (1 ∷ []) $ feqL ! (λ l-l.
+            move ! (2 ∷ 0 ∷ []) $ use2 W (raw (Put 𝓤 H A at-mem run .pre (to-put ν″ δ″ ls k (r .gate) (r .terms) (r .made)))) (goes-put ν″ δ″ ls k (r .gate) (r .terms) (r .made) at-fits (gate-fits r is) (few-fit here r (os .1 .1 .1 .1 .1 .0) (os .1 .1 .1 .1 .1 .1 .0) (os .1 .1 .1 .1 .1 .1 .1 .0) said (is-true (r .fits) went)) (peak-fits r is) (within here)) $
+            calls-at ! fm (Put 𝓤 H A at-mem run) known-put (to-put ν″ δ″ ls k (r .gate) (r .terms) (r .made)) (and-then ! (load ! (from ! (stop !)) (look ! 12 refl)) (and-then ! (load ! (from ! (stop !)) (look ! 42 refl)) (and-then ! (load ! (from ! (fld ! refl (stop !))) (look-in ! 38 (sub ! 1 refl (whole !)))) (and-then ! (load ! (from ! (stop !)) (look ! 30 refl)) (and-then ! (load ! (from ! (fld ! refl (stop !))) (look-in ! 38 (sub ! 3 refl (whole !)))) (no-more !)))))) (λ w′.
+            use1 W (later (some (λ (u : Unit {0}). ((‵ (flft (ν″ ∷ []) fullShare) ⊛ ‵ ftrue) ⊛ ‵ (unit .own u (w′ ∷ []))) ⊛ raw (ensured 𝓤 H A put.ended (put.clauses 𝓤 H A at-mem run) (ν″ ∷ [], tt) (xl δ″ ls, (k, (r .gate, (r .terms, (r .made, tt))))) tt u)))) (id⊢ 𝓤 _) $ await ! tt $ pick ! (λ u.
+            split ! $ move ! (1 ∷ []) $ use1 W (some (λ (ms : List StepRecord × (Unit {0} × (Unit {0} × (Unit {0} × (Unit {0} × Unit {0}))))). ‵ (lasts put.ended (ν″ ∷ [], tt) (xl δ″ ls, (k, (r .gate, (r .terms, (r .made, tt))))) ms) ⊛ raw (fact 𝓤 (ms .0 ≡ set ls k (record { gate = r .gate; terms = r .terms; made = r .made }))))) (id⊢ 𝓤 _) $ pick ! (λ ms.
+            split ! $ move ! (1 ∷ []) $ heard ! (ms .0 ≡ set ls k (record { gate = r .gate; terms = r .terms; made = r .made })) (λ put-said. fsplit ! $ fsplit ! $ move ! (1 ∷ []) $ feqL ! (λ l-l.
             move ! (2 ∷ []) $ split ! $ move ! (1 ∷ []) $ peeks ! unit (Is unit) (shows 𝓤 H A unit) u (w′ ∷ []) (λ is′.
             land ! (from ! (stop !)) (init ! 19 refl (nothing-lawful 𝓤 H A W .typed u _ is′ .0)) $
             move ! (1 ∷ []) $ split ! $ lft-end ! tt $ move ! (0 ∷ 5 ∷ 3 ∷ []) $

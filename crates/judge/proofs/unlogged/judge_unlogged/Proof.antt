@@ -109,13 +109,13 @@ room = (lit< tt, lit< tt)
 
 -- an empty record, its machine value, and that it has its type
 abbrev blank : StepRecord
-blank = record { gate = 0; terms = 0 }
+blank = record { gate = 0; terms = 0; made = 0 }
 
 abbrev mach : Val
-mach = vstruct (vcons (vint w32 0) (vcons (vint w32 0) vnil))
+mach = vstruct (vcons (vint w32 0) (vcons (vint w32 0) (vcons (vint w32 0) vnil)))
 
 made : Is R blank (mach ∷ [])
-made = LL.owes S.the-type S′.the-laws blank ((refl, lit< tt), ((refl, lit< tt), tt))
+made = LL.owes S.the-type S′.the-laws blank ((refl, lit< tt), ((refl, lit< tt), ((refl, lit< tt), tt)))
 
 -- the array's machine value, at first and at the list l
 abbrev av₀ : Val
@@ -246,7 +246,7 @@ module _ {M : Type 1} (𝓤 : URA M) (H : Heap 𝓤) (A : Atoms 𝓤) (W : Given
         alloc1 ! (λ l₀. alloc1 ! (λ l₁. alloc1 ! (λ l₂. alloc1 ! (λ l₃. alloc1 ! (λ l₄. alloc1 ! (λ l₅. alloc1 ! (λ l₆. alloc1 ! (λ l₇. alloc1 ! (λ l₈. alloc1 ! (λ l₉. alloc1 ! (λ l₁₀. alloc1 ! (λ l₁₁. alloc1 ! (λ l₁₂. alloc1 ! (λ l₁₃. alloc1 ! (λ l₁₄. alloc1 ! (λ l₁₅. alloc1 ! (λ l₁₆. alloc1 ! (λ l₁₇. alloc1 ! (λ l₁₈. alloc0 ! $ params1 ! $
         pass1 ! (init ! 34 refl (LL.lawful C′.the-type C″.the-laws 𝓤 H A W .typed c _ is-c .0)) $ pass1 ! (init ! 32 refl (tt, (tt, (record { fits = rt .0 }, tt)))) $ pass1 ! (init ! 30 refl (tt, record { fits = kind-fits })) $ pass1 ! (init ! 28 refl (tt, record { fits = limit-fits })) $ pass1 ! (init ! 26 refl (tt, (tt, (record { fits = ro .0 }, tt)))) $ pass1 ! (init ! 24 refl (tt, (tt, (record { fits = rs .0 }, tt)))) $ pass1 ! (init ! 22 refl (tt, (tt, (record { fits = rz .0 }, tt)))) $ pass1 ! (init ! 20 refl (tt, (tt, (record { fits = rn .0 }, tt)))) $ pass0 ! $
         -- [_18; …; _0; …; the tokens; what the parameters own]
-        assigns ! (agg ! (and-then ! (lit ! tt) (and-then ! (lit ! tt) (no-more !)))) (from ! (stop !)) (init ! 16 refl (LL.lawful S.the-type S′.the-laws 𝓤 H A W .typed blank _ made .0)) $
+        assigns ! (agg ! (and-then ! (lit ! tt) (and-then ! (lit ! tt) (and-then ! (lit ! tt) (no-more !))))) (from ! (stop !)) (init ! 16 refl (LL.lawful S.the-type S′.the-laws 𝓤 H A W .typed blank _ made .0)) $
         owned ! R (Is R) ((LL.makes S.the-type S′.the-plain) 𝓤 H A) blank _ made $ use1 W (‵ (Arr .own blank-log (av₀ ∷ []))) (array-repeat 𝓤 H A W R (LL.copy S.the-type S′.the-copy 𝓤 H A W) 127 blank mach) $
         peeks ! Arr (Is Arr) (shows 𝓤 H A Arr) blank-log (av₀ ∷ []) (λ is-arr.
         assigns ! (rep ! 127 (load ! (from ! (stop !)) (look ! 17 refl))) (from ! (stop !)) (init ! 19 refl (array-typed blank-log av₀ is-arr .0)) $

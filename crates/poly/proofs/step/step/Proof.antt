@@ -2,7 +2,8 @@
 use mathlib.Core.Path.{refl}
 use lib.ListN.{length}
 use Rattle.words.proofs.Stored.{stride-le}
-use Rattle.poly.proofs.Settled.{numbers-same, stepped-same, used-asks, to-replace}
+use Rattle.gates.specs.Apart.{variables-in}
+use Rattle.poly.proofs.Settled.{numbers-same, stepped-same, each-none, each-some, used-asks, to-replace}
 use borrow.Author.Needs.{needs}
 use Rattle.poly.proofs.step.step.Statement.{statement}
 use Rattle.poly.proofs.step.step.Tie as tie
@@ -25,7 +26,7 @@ same-length c = search needs
 returns : tie.Need-returns
 returns c =
     let a = c .before .before .before .before .before .before .args in
-    (stepped-same (a .w) (a .l) (a .v) (a .r) (a .limit) (a .held) (a .store .now) (a .scratch .now) (c .before .before .before .before .before .before .pre .0) (c .before .last-holding .result) (c .before .last-holding .ensures) (c .if1 .taken), numbers-same (a .w) (a .l) (a .v) (a .r) (a .limit) (a .held) (a .store .now) (a .scratch .now) (a .numbers .now) (c .before .before .before .before .before .before .pre .0) (c .before .last-holding .result) (c .before .last-holding .ensures) (c .if1 .taken))
+    (stepped-same (a .w) (a .l) (a .v) (a .r) (a .limit) (a .held) (a .store .now) (a .scratch .now) (c .before .before .before .before .before .before .pre .0) (c .before .last-holding .result) (c .before .last-holding .ensures) (c .if1 .taken), numbers-same (a .w) (a .l) (a .v) (a .r) (a .limit) (a .held) (a .store .now) (a .scratch .now) (a .numbers .now) (c .before .before .before .before .before .before .pre .0) (c .before .last-holding .result) (c .before .last-holding .ensures) (c .if1 .taken), each-none (a .v) (a .r) _ (c .before .last-holding .result) (c .before .last-holding .ensures) (c .if1 .taken))
 
 slice-aggregate-apart : tie.Need-slice-aggregate-apart
 slice-aggregate-apart c = search needs
@@ -48,7 +49,7 @@ replace-requires c κs =
     let o = c .before .before .before .before .before .before .before .before .before .before .last-holding in
     let q = c .before .before .before .before .before .before .before .apart in
     let u = c .before .before .before .before .words-used in
-    (to-replace (a .w) (a .l) (a .v) (a .r) (a .limit) (a .held) (o .result) (a .store .now) (a .scratch .now) (c .before .before .before .before .before .before .before .before .before .before .before .before .before .before .before .pre .0) (o .ensures) (c .before .before .before .before .before .before .before .before .before .if1 .left) (q .result) (q .last .1 .0) (q .ensures) (q .kept .1 .0) (u .result) (u .ensures), c .before .before .before .before .before .before .before .before .before .before .before .before .before .before .before .pre .1)
+    (to-replace (a .w) (a .l) (a .v) (a .r) (a .limit) (a .held) (o .result) (a .store .now) (a .scratch .now) (c .before .before .before .before .before .before .before .before .before .before .before .before .before .before .before .pre .0) (o .ensures) (c .before .before .before .before .before .before .before .before .before .if1 .left) (variables-in (q .result)) (q .last .1 .0) (q .ensures .0) (q .kept .1 .0) (u .result) (u .ensures), c .before .before .before .before .before .before .before .before .before .before .before .before .before .before .before .pre .1)
 
 same-length-2 : tie.Need-same-length-2
 same-length-2 c = search needs
@@ -60,7 +61,12 @@ same-length-4 : tie.Need-same-length-4
 same-length-4 c = search needs
 
 returns-2 : tie.Need-returns-2
-returns-2 c = c .before .before .before .before .before .before .replace .ensures
+returns-2 c =
+    let a = c .before .before .before .before .before .before .before .before .before .before .before .before .before .before .before .before .before .before .before .before .before .before .args in
+    let o = c .before .before .before .before .before .before .before .before .before .before .before .before .before .before .before .before .before .last-holding in
+    let q = c .before .before .before .before .before .before .before .before .before .before .before .before .before .before .apart in
+    let done = c .before .before .before .before .before .before .replace .ensures in
+    (done .0, done .1, each-some (a .v) (a .r) _ (o .result) (q .result .made) (o .ensures) (c .before .before .before .before .before .before .before .before .before .before .before .before .before .before .before .before .if1 .left) (q .ensures .1))
 
 pub step-spec : {M : Type 1} → statement M
 step-spec =

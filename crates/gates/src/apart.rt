@@ -38,7 +38,7 @@ fn put_four(row: &mut [i16], none: i16, x: i16, y: i16, both: i16)
     row[3] = both;
 }
 
-// Writes the coefficients of the product of two literals. An AND gate needs none of the 256 rows: they are built anew at each look.
+// Writes the coefficients of the product of two literals. An AND gate needs none of the 256 rows: a part of them is built anew at each look.
 fn put_product(row: &mut [i16], x: u32, y: u32)
     requires { ⌜ now row ≡ replicate 8 (pos 0) ⌝ }
     ensures { λ r. ⌜ Same (row-of (now (row .exit))) (row-of (and-row (inverted x) (inverted y))) ⌝ }

@@ -2,8 +2,8 @@
 use mathlib.Core.Path.{_≡_, sym, _∙_}
 use mathlib.Core.Bool.{Bool, true, _&&_}
 use mathlib.Core.List.{List}
-use Prim.Native.Nat.{ℕ, zero, suc, _+_, _*_, _<_, _≤_}
-use native.Mathlib.Nat.{zero-add, add-zero}
+use Prim.Native.Nat.{ℕ, zero, suc, _+_, _*_, _/_, _%_, _<_, _≤_}
+use native.Mathlib.Nat.{add-zero}
 use native.Mathlib.Omega.{arith}
 use borrow.Author.Tests.{eqb-true}
 use lib.Dec.{eqb}
@@ -14,9 +14,9 @@ use lib.Signed.{mag}
 use mir.Syntax.{w8}
 use mir.Val.{toZ, ofZ}
 use mir.Facts.{toZ-ofZ}
-use Rattle.rules.specs.Each.{each}
+use Rattle.rules.specs.Each.{each, sum}
 use Rattle.rules.specs.Values.{bit}
-use Rattle.rules.specs.Cells.{above, below, within, Row, coefficient}
+use Rattle.rules.specs.Cells.{above, below, lies-in, within, Row, coefficient}
 use Rattle.rules.proofs.Indices.{both, each-at}
 use Rattle.rules.proofs.CellRule.{row-only, coefficient-small}
 use Rattle.rows.specs.Rows.{Right}
@@ -28,12 +28,13 @@ sums-at byte list x =
 
 -- the first eight entries are the row of the byte, the eight behind them that of the next byte, and so on for n rows
 unfoldable pub rows-from : ℕ → ℕ → List ℤ → Bool
+unfolding sums-at within lies-in each sum above below bit
 rows-from zero byte list = true
 rows-from (suc n) byte list = each 8 (sums-at byte list) && rows-from n (suc byte) (drop 8 list)
 
 -- the test, read at a byte: its row stands there
 row-there : (n byte : ℕ) (list : List ℤ) → rows-from n byte list ≡ true → (k : ℕ) → k < n → Row (byte + k) (λ u. getD (drop (k * 8) list) u (pos 0))
-unfolding rows-from sums-at Row
+unfolding rows-from Row
 row-there zero byte list h k l = absurd (omega arith)
 row-there (suc n) byte list h zero l =
     let first = both (each 8 (sums-at byte list)) (rows-from n (suc byte) (drop 8 list)) h .0 in
@@ -44,12 +45,12 @@ row-there (suc n) byte list h (suc k) l =
     let next : byte + suc k ≡ suc byte + k = omega arith in
     rw (place, next, ← drop-drop (k * 8) 8 list) (row-there n (suc byte) (drop 8 list) rest k (omega arith))
 
--- a list that passes holds every coefficient, since no other whole numbers have those sums
-pub tested-right : (list : List ℤ) → rows-from 256 0 list ≡ true → Right list
+-- a list that passes as the part of a number holds every coefficient of that part, since no other whole numbers have those sums
+pub tested-right : (part high : ℕ) (list : List ℤ) → high ≡ part → rows-from 16 (16 * part) list ≡ true → Right high list
 unfolding Right
-tested-right list h byte u l m =
-    let row = rw zero-add at (row-there 256 0 list h byte l) in
-    sym (getD-drop (byte * 8) list u (pos 0)) ∙ row-only byte (λ v. getD (drop (byte * 8) list) v (pos 0)) row u m
+tested-right part high list e h low u l m =
+    let row = row-there 16 (16 * part) list h low l in
+    rw e (sym (getD-drop (low * 8) list u (pos 0)) ∙ row-only (16 * part + low) (λ v. getD (drop (low * 8) list) v (pos 0)) row u m)
 
 -- a whole number that lies at most 4 above or below 0 has a small magnitude
 small : (z : ℤ) → above z ≤ 4 → below z ≤ 4 → mag z < 128
@@ -57,9 +58,10 @@ unfolding above below
 small (pos k) h l = omega arith
 small (negsuc k) h l = omega arith
 
--- what is read of a right table, as a signed byte, is the coefficient
-pub right-read : (list : List ℤ) (byte from u : ℕ) → Right list → from ≡ byte * 8 → byte < 256 → u < 8 → toZ w8 (ofZ w8 (getD list (from + u) (pos 0))) ≡ coefficient byte u
+-- what is read of the right part of the table, as a signed byte, is the coefficient
+pub right-read : (list : List ℤ) (byte from u : ℕ) → Right (byte / 16) list → from ≡ byte % 16 * 8 → u < 8 → toZ w8 (ofZ w8 (getD list (from + u) (pos 0))) ≡ coefficient byte u
 unfolding Right
-right-read list byte from u right e h l =
+right-read list byte from u right e l =
     let bounds = coefficient-small byte u l in
-    rw (e, right byte u h l) (toZ-ofZ (record { sfits = small (coefficient byte u) (bounds .0) (bounds .1) }))
+    let whole : 16 * (byte / 16) + byte % 16 ≡ byte = omega arith in
+    rw (e, right (byte % 16) u (omega arith) l, whole) (toZ-ofZ (record { sfits = small (coefficient byte u) (bounds .0) (bounds .1) }))

@@ -7,9 +7,9 @@ use lib.IntN.{ℤ, pos}
 use lib.ListN.{getD}
 use Rattle.rules.specs.Cells.{coefficient}
 
--- row by row, the list holds the coefficient of every byte at every subset
-unfoldable pub Right : List ℤ → Type 0
-Right list = (byte u : ℕ) → byte < 256 → u < 8 → getD list (byte * 8 + u) (pos 0) ≡ coefficient byte u
+-- row by row, the list holds the coefficients of the sixteen bytes of a part of the table, at every subset
+unfoldable pub Right : ℕ → List ℤ → Type 0
+Right part list = (low u : ℕ) → low < 16 → u < 8 → getD list (low * 8 + u) (pos 0) ≡ coefficient (16 * part + low) u
 
 -- the second list is the first with the first n coefficients of the byte written from the index `at` on
 pub record Written (byte at n : ℕ) (entry exit : List ℤ) : Type 0 where

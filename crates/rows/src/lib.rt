@@ -1,15 +1,15 @@
 // The whole coefficients of every truth byte over three variables, from a fixed table.
 ghost use mathlib.Core.Path.{_≡_};
-ghost use Prim.Native.Nat.{_+_, _*_, _≤_};
+ghost use Prim.Native.Nat.{_+_, _*_, _%_, _≤_};
 ghost use lib.ListN.{length};
 ghost use Rattle.rows.specs.Rows.{Right, Written};
 
-// Writes the row of a truth byte to the eight entries from `at` on. It takes the table once, for it is built anew each time.
+// Writes the row of a truth byte to the eight entries from `at` on. It takes the part of the table once, for it is built anew each time.
 pub fn put_row(byte: u32, row: &mut [i8], at: usize)
     requires { ⌜ (byte ≤ 255) × (at + 8 ≤ length (now row)) ⌝ }
     ensures { λ _. ⌜ Written byte at 8 (now (row .entry)) (now (row .exit)) ⌝ }
 {
-    let rows = table();
+    let rows = part(byte / 16);
     let from = start(byte);
     let mut subset = 0;
     while subset < 8 {
@@ -18,23 +18,41 @@ pub fn put_row(byte: u32, row: &mut [i8], at: usize)
     }
 }
 
-// Where the row of a truth byte begins in the table.
+// Where the row of a truth byte begins in its part of the table.
 fn start(byte: u32) -> usize
-    requires { ⌜ byte ≤ 255 ⌝ }
-    ensures { λ r. ⌜ r ≡ byte * 8 ⌝ }
+    ensures { λ r. ⌜ r ≡ byte % 16 * 8 ⌝ }
 {
-    byte as usize * 8
+    (byte % 16) as usize * 8
 }
 
-// The table. Its rule is proved here and nowhere else, so that a wrong entry is refused by the test of the rule.
-fn table() -> [i8; 2048]
-    ensures { λ r. ⌜ Right r ⌝ }
+// The part of the table with the rows of the sixteen bytes from 16 * high on. The table's rule is proved here and nowhere else, so that a wrong
+// entry is refused by the test of the rule. It is in parts so that a look builds one of them, and not all 256 rows.
+fn part(high: u32) -> [i8; 8 * 16]
+    requires { ⌜ high ≤ 15 ⌝ }
+    ensures { λ r. ⌜ Right high r ⌝ }
 {
-    ROWS
+    match high {
+        0 => ROWS_0,
+        1 => ROWS_1,
+        2 => ROWS_2,
+        3 => ROWS_3,
+        4 => ROWS_4,
+        5 => ROWS_5,
+        6 => ROWS_6,
+        7 => ROWS_7,
+        8 => ROWS_8,
+        9 => ROWS_9,
+        10 => ROWS_10,
+        11 => ROWS_11,
+        12 => ROWS_12,
+        13 => ROWS_13,
+        14 => ROWS_14,
+        _ => ROWS_15,
+    }
 }
 
-// Eight coefficients for each byte, in the order of the bytes and then of the subsets.
-const ROWS: [i8; 2048] = [
+// The table: eight coefficients for each byte, in the order of the bytes and then of the subsets.
+const ROWS_0: [i8; 8 * 16] = [
     0,
     0,
     0,
@@ -163,6 +181,9 @@ const ROWS: [i8; 2048] = [
     0,
     0,
     0,
+];
+
+const ROWS_1: [i8; 8 * 16] = [
     0,
     0,
     0,
@@ -291,6 +312,9 @@ const ROWS: [i8; 2048] = [
     -1,
     -1,
     1,
+];
+
+const ROWS_2: [i8; 8 * 16] = [
     0,
     0,
     0,
@@ -419,6 +443,9 @@ const ROWS: [i8; 2048] = [
     1,
     0,
     -1,
+];
+
+const ROWS_3: [i8; 8 * 16] = [
     0,
     0,
     0,
@@ -547,6 +574,9 @@ const ROWS: [i8; 2048] = [
     0,
     -1,
     0,
+];
+
+const ROWS_4: [i8; 8 * 16] = [
     0,
     0,
     0,
@@ -675,6 +705,9 @@ const ROWS: [i8; 2048] = [
     0,
     1,
     -1,
+];
+
+const ROWS_5: [i8; 8 * 16] = [
     0,
     0,
     0,
@@ -803,6 +836,9 @@ const ROWS: [i8; 2048] = [
     -1,
     0,
     0,
+];
+
+const ROWS_6: [i8; 8 * 16] = [
     0,
     0,
     0,
@@ -931,6 +967,9 @@ const ROWS: [i8; 2048] = [
     1,
     1,
     -2,
+];
+
+const ROWS_7: [i8; 8 * 16] = [
     0,
     0,
     0,
@@ -1059,6 +1098,9 @@ const ROWS: [i8; 2048] = [
     0,
     0,
     -1,
+];
+
+const ROWS_8: [i8; 8 * 16] = [
     0,
     0,
     0,
@@ -1187,6 +1229,9 @@ const ROWS: [i8; 2048] = [
     0,
     0,
     1,
+];
+
+const ROWS_9: [i8; 8 * 16] = [
     0,
     0,
     0,
@@ -1315,6 +1360,9 @@ const ROWS: [i8; 2048] = [
     -1,
     -1,
     2,
+];
+
+const ROWS_10: [i8; 8 * 16] = [
     0,
     0,
     0,
@@ -1443,6 +1491,9 @@ const ROWS: [i8; 2048] = [
     1,
     0,
     0,
+];
+
+const ROWS_11: [i8; 8 * 16] = [
     0,
     0,
     0,
@@ -1571,6 +1622,9 @@ const ROWS: [i8; 2048] = [
     0,
     -1,
     1,
+];
+
+const ROWS_12: [i8; 8 * 16] = [
     0,
     0,
     0,
@@ -1699,6 +1753,9 @@ const ROWS: [i8; 2048] = [
     0,
     1,
     0,
+];
+
+const ROWS_13: [i8; 8 * 16] = [
     0,
     0,
     0,
@@ -1827,6 +1884,9 @@ const ROWS: [i8; 2048] = [
     -1,
     0,
     1,
+];
+
+const ROWS_14: [i8; 8 * 16] = [
     0,
     0,
     0,
@@ -1955,6 +2015,9 @@ const ROWS: [i8; 2048] = [
     1,
     1,
     -1,
+];
+
+const ROWS_15: [i8; 8 * 16] = [
     0,
     0,
     0,

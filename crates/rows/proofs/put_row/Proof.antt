@@ -16,8 +16,8 @@ Inv-loop byte row₀ at rows from subset₀ row subset = (length row ≡ length 
 abbrev μ-loop : tie.MeasureT-loop
 μ-loop byte row₀ at rows from subset₀ row subset = 8 - subset
 
-table-requires : tie.Need-table-requires Inv-loop μ-loop
-table-requires c κs = search needs
+part-requires : tie.Need-part-requires Inv-loop μ-loop
+part-requires c κs = search needs
 
 start-requires : tie.Need-start-requires Inv-loop μ-loop
 start-requires c κs = search needs
@@ -31,8 +31,8 @@ add-row c = search needs
 array-copy-out-row : tie.Need-array-copy-out-row Inv-loop μ-loop
 array-copy-out-row c = search needs
 
-add-t13 : tie.Need-add-t13 Inv-loop μ-loop
-add-t13 c = search needs
+add-t14 : tie.Need-add-t14 Inv-loop μ-loop
+add-t14 c = search needs
 
 slice-set-from-row : tie.Need-slice-set-from-row Inv-loop μ-loop
 slice-set-from-row c = search needs
@@ -46,10 +46,10 @@ loop-less c = search needs
 loop-again : tie.Need-loop-again Inv-loop μ-loop
 loop-again c =
     let a = c .before .before .before .before .before .args in
-    let rows = c .before .before .before .before .table in
+    let rows = c .before .before .before .before .part in
     let from = c .before .before .before .start in
     let l = c .before .before .loop in
-    let right = right-read (rows .result) (a .byte) (from .result) (l .subset) (rows .ensures) (from .ensures) (omega arith) (omega arith) in
+    let right = right-read (rows .result) (a .byte) (from .result) (l .subset) (rows .ensures) (from .ensures) (omega arith) in
     (simp length-set (l .inv .0), omega arith, one-written (a .byte) (a .at) (l .subset) _ (l .row) _ (l .inv .2) (omega arith) right)
 
 same-length : tie.Need-same-length Inv-loop μ-loop
@@ -67,12 +67,12 @@ put-row-spec =
     (tie.spec
     Inv-loop
     μ-loop
-    table-requires
+    part-requires
     start-requires
     loop-holds
     add-row
     array-copy-out-row
-    add-t13
+    add-t14
     slice-set-from-row
     add-subset
     loop-less

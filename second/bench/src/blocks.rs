@@ -2,8 +2,9 @@
 
 use crate::judges::{by_hash, by_library, by_second, Lent, LentToHash, Question, Verdict};
 use crate::timing::{met, Least};
+use compare::types::step_for_second;
 use second::blocks::{self, Block};
-use second::{orders, Records};
+use second::{orders, Records, Step};
 
 /// The least time of each judge.
 struct Times {
@@ -69,7 +70,7 @@ pub fn run_alone(records: Records, repeats: u32) -> bool {
 }
 
 fn asked<'a>(block: &'a Block, limit: u64, order: &'a [u32]) -> Question<'a> {
-    Question::of(&block.made, block.reading.kind(), limit, order)
+    Question::of(&block.made, block.reading, limit, order)
 }
 
 /// One block by all three judges in turn, so that a busy moment of the machine meets them all; none when they disagree.
@@ -110,10 +111,12 @@ fn judged(block: &Block, limit: u64, repeats: u32) -> Option<(Verdict, Times)> {
 }
 
 /// Whether all three left the same numbers of occurrences and the same records.
-fn left_the_same(library: &Lent, second: &Lent, hash: &LentToHash) -> bool {
-    [library, second]
+fn left_the_same(library: &Lent<hraskell::Step>, second: &Lent<Step>, hash: &LentToHash) -> bool {
+    let logged: Vec<Step> = library.log.iter().copied().map(step_for_second).collect();
+    let counted_the_same = [&library.occurrences, &second.occurrences]
         .iter()
-        .all(|left| left.occurrences == hash.occurrences && left.log == hash.log)
+        .all(|&occurrences| *occurrences == hash.occurrences);
+    counted_the_same && logged == hash.log && second.log == hash.log
 }
 
 fn print_row(name: &str, [library, second, hash]: [f64; 3], answer: &str) {

@@ -1,9 +1,9 @@
 //! Three judges of one question: the proved library, the second program, and the plain C judge.
 
-use compare::library;
-use compare::mirror::number_of;
+use compare::types::{counts_for_library, kind_for_library, records_for_library};
 use second::netlists::Made;
-use second::{Answer, Counts, Records, Step};
+use second::reading::Reading;
+use second::{Counts, Records, Step};
 
 /// What every judge is asked.
 #[derive(Clone, Copy)]
@@ -11,18 +11,18 @@ pub struct Question<'a> {
     pub counts: Counts,
     pub table: &'a [u32],
     pub records: Records,
-    pub kind: u32,
+    pub reading: Reading,
     pub limit: u64,
     pub order: &'a [u32],
 }
 
 impl<'a> Question<'a> {
-    pub fn of(made: &'a Made, kind: u32, limit: u64, order: &'a [u32]) -> Question<'a> {
+    pub fn of(made: &'a Made, reading: Reading, limit: u64, order: &'a [u32]) -> Question<'a> {
         Question {
             counts: made.counts,
             table: &made.table,
             records: made.records,
-            kind,
+            reading,
             limit,
             order,
         }
@@ -35,7 +35,19 @@ impl<'a> Question<'a> {
 
     /// The number that tells C whether the records are cells.
     fn cells(&self) -> u32 {
-        number_of(self.records, 0)
+        records_for_library(self.records).number()
+    }
+
+    /// The same question in the library's types.
+    fn for_library(&self) -> hraskell::Question<'a> {
+        hraskell::Question {
+            counts: counts_for_library(self.counts),
+            table: self.table,
+            records: records_for_library(self.records),
+            kind: kind_for_library(self.reading),
+            limit: self.limit,
+            order: self.order,
+        }
     }
 }
 
@@ -48,6 +60,18 @@ pub struct Verdict {
 }
 
 impl Verdict {
+    fn new(letter: char, step: impl Into<u64>, terms: impl Into<u64>) -> Verdict {
+        Verdict {
+            letter,
+            step: step.into(),
+            terms: terms.into(),
+        }
+    }
+
+    fn refused(number: u32) -> Verdict {
+        Verdict::new('X', number, 0u32)
+    }
+
     pub fn is_decision(self) -> bool {
         matches!(self.letter, 'E' | 'D')
     }
@@ -60,20 +84,21 @@ impl std::fmt::Display for Verdict {
 }
 
 /// The words and records lent to a judge, as many as documents 01 and 02 ask. A host lends the same ones again and again.
-pub struct Lent {
+/// The library and the second program have each their own type of record.
+pub struct Lent<Record> {
     pub store: Vec<u64>,
     pub scratch: Vec<u64>,
-    pub log: Vec<Step>,
+    pub log: Vec<Record>,
     pub occurrences: Vec<u32>,
 }
 
-impl Lent {
-    pub fn to(question: &Question) -> Lent {
+impl<Record: Clone + Default> Lent<Record> {
+    pub fn to(question: &Question) -> Lent<Record> {
         let words = question.limit as usize * question.counts.term_words();
         Lent {
             store: vec![0; words],
             scratch: vec![0; question.records.most_made() * words],
-            log: vec![Step::default(); question.order.len()],
+            log: vec![Record::default(); question.order.len()],
             occurrences: vec![0; question.occurrence_words()],
         }
     }
@@ -128,39 +153,30 @@ extern "C" {
     ) -> u8;
 }
 
-pub fn by_library(question: &Question, lent: &mut Lent) -> Verdict {
-    let mut answer = [0; 7];
-    let asked = compare::Question {
-        counts: question.counts,
-        table: question.table,
-        cells: question.cells(),
-        kind: question.kind,
-        limit: question.limit,
-        order: question.order,
-        lent: second::Lent {
-            store: &mut lent.store,
-            scratch: &mut lent.scratch,
-            log: &mut lent.log,
-            occurrences: &mut lent.occurrences,
-        },
+pub fn by_library(question: &Question, lent: &mut Lent<hraskell::Step>) -> Verdict {
+    use hraskell::{Answer, Refused};
+    let lent = hraskell::Lent {
+        store: &mut lent.store,
+        scratch: &mut lent.scratch,
+        log: &mut lent.log,
+        occurrences: &mut lent.occurrences,
     };
-    let number = library::judge(asked, &mut answer);
-    match ['E', 'D', 'R', 'U'].get(number as usize) {
-        Some(&letter) => Verdict {
-            letter,
-            step: answer[0],
-            terms: answer[1],
-        },
-        None => refused(number.saturating_sub(100)),
+    match hraskell::judge(&question.for_library(), lent) {
+        Ok(Answer::Equal { steps, terms }) => Verdict::new('E', steps, terms),
+        Ok(Answer::Differs { steps, terms, .. }) => Verdict::new('D', steps, terms),
+        Ok(Answer::OutOfRoom { step, terms }) => Verdict::new('R', step, terms),
+        Ok(Answer::Unfinished { steps, terms }) => Verdict::new('U', steps, terms),
+        Err(Refused(number)) => Verdict::refused(number),
     }
 }
 
-pub fn by_second(question: &Question, lent: &mut Lent) -> Verdict {
+pub fn by_second(question: &Question, lent: &mut Lent<Step>) -> Verdict {
+    use second::Answer;
     let answer = second::judge(
         question.counts,
         question.table,
         question.records,
-        question.kind,
+        question.reading.kind(),
         question.limit,
         question.order,
         &mut lent.store,
@@ -168,17 +184,12 @@ pub fn by_second(question: &Question, lent: &mut Lent) -> Verdict {
         &mut lent.log,
         &mut lent.occurrences,
     );
-    let (letter, step, terms) = match answer {
-        Answer::Equal { steps, terms } => ('E', steps, terms),
-        Answer::Differs { steps, terms, .. } => ('D', steps, terms),
-        Answer::OutOfRoom { step, terms } => ('R', step, terms),
-        Answer::Unfinished { steps, terms } => ('U', steps, terms),
-        Answer::Refused(number) => return refused(number),
-    };
-    Verdict {
-        letter,
-        step: step.into(),
-        terms: terms.into(),
+    match answer {
+        Answer::Equal { steps, terms } => Verdict::new('E', steps, terms),
+        Answer::Differs { steps, terms, .. } => Verdict::new('D', steps, terms),
+        Answer::OutOfRoom { step, terms } => Verdict::new('R', step, terms),
+        Answer::Unfinished { steps, terms } => Verdict::new('U', steps, terms),
+        Answer::Refused(number) => Verdict::refused(number),
     }
 }
 
@@ -194,7 +205,7 @@ pub fn by_hash(question: &Question, lent: &mut LentToHash) -> Verdict {
             question.counts.o,
             question.table.as_ptr(),
             question.cells(),
-            question.kind,
+            question.reading.kind(),
             question.limit,
             question.order.as_ptr(),
             question.order.len(),
@@ -205,17 +216,6 @@ pub fn by_hash(question: &Question, lent: &mut LentToHash) -> Verdict {
             shown.as_mut_ptr(),
         )
     };
-    Verdict {
-        letter: letter.into(),
-        step: shown[0],
-        terms: shown[1],
-    }
-}
-
-fn refused(number: u32) -> Verdict {
-    Verdict {
-        letter: 'X',
-        step: number.into(),
-        terms: 0,
-    }
+    let [step, terms] = shown;
+    Verdict::new(letter.into(), step, terms)
 }

@@ -2,7 +2,6 @@
 
 mod blocks;
 mod judges;
-mod library;
 mod pairs;
 mod read;
 mod steps;

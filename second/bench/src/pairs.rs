@@ -116,20 +116,21 @@ fn deciding_order(block: &Block) -> (&'static str, Vec<u32>) {
 }
 
 fn question<'a>(block: &'a Block, order: &'a [u32]) -> Question<'a> {
-    Question::of(&block.made, block.reading.kind(), LIMIT, order)
+    Question::of(&block.made, block.reading, LIMIT, order)
 }
 
 fn row(block: &Block) -> Row {
     let (order, steps) = deciding_order(block);
     let question = question(block, &steps);
+    let kind = block.reading.kind();
     let mut lent = Lent::to(&question);
     let (mut judging, mut trying) = (Least::new(), Least::new());
     let mut verdict = judging.time(|| by_library(&question, &mut lent));
-    let mut tried = trying.time(|| try_all(&block.made, question.kind));
+    let mut tried = trying.time(|| try_all(&block.made, kind));
     for _ in 1..REPEATS {
         verdict = judging.time(|| by_library(&question, &mut lent));
         if tried != Tried::TooLong {
-            tried = trying.time(|| try_all(&block.made, question.kind));
+            tried = trying.time(|| try_all(&block.made, kind));
         }
     }
     Row {

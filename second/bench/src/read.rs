@@ -1,7 +1,7 @@
 //! Reading a netlist text and evaluating one operand pair, beside the second program.
 
-use crate::library;
 use crate::timing::{met, Least};
+use compare::types::{counts_for_library, records_for_library};
 use second::cell_netlists::random_cells;
 use second::desk::TABLE_WORDS;
 use second::netlists::{random_sound, Made};
@@ -40,36 +40,41 @@ pub fn run() -> bool {
 
 fn reads_the_same(text: &[u8]) -> bool {
     let (mut one, mut other) = ([0; TABLE_WORDS], [0; TABLE_WORDS]);
-    let by_library = |_| library::read(black_box(text), &mut one);
-    let by_second = |_| second::read(black_box(text), &mut other);
+    let by_library = |_| hraskell::read(black_box(text), &mut one).ok();
+    let by_second = |_| {
+        let counts = second::read(black_box(text), &mut other);
+        counts.ok().map(counts_for_library)
+    };
     gives_the_same("read", by_library, by_second) && one == other
 }
 
 fn evaluates_the_same(name: &str, netlist: &Made, pairs: &[(u64, u64)]) -> bool {
     let pair = |call: usize| black_box(pairs[call % pairs.len()]);
+    let counts = counts_for_library(netlist.counts);
+    let records = records_for_library(netlist.records);
     let by_library = |call| {
         let (a, b) = pair(call);
-        library::evaluate(netlist, a, b)
+        hraskell::evaluate(counts, &netlist.table, records, a, b).ok()
     };
     let by_second = |call| {
         let (a, b) = pair(call);
-        netlist.word_at(a, b)
+        netlist.word_at(a, b).ok()
     };
     gives_the_same(name, by_library, by_second)
 }
 
-/// Times both in turn and prints the row; says whether both gave the same, and no refusal.
+/// Times both in turn and prints the row; says whether both gave the same, and neither refused.
 fn gives_the_same<R: PartialEq>(
     name: &str,
-    mut by_library: impl FnMut(usize) -> Result<R, u32>,
-    mut by_second: impl FnMut(usize) -> Result<R, u32>,
+    mut by_library: impl FnMut(usize) -> Option<R>,
+    mut by_second: impl FnMut(usize) -> Option<R>,
 ) -> bool {
     let (mut library, mut second) = (Least::new(), Least::new());
     for repetition in 0..REPEATS {
         let first = repetition * CALLS;
         let one = library.time(|| last_of_calls(first, &mut by_library));
         let other = second.time(|| last_of_calls(first, &mut by_second));
-        if one != other || one.is_err() {
+        if one != other || one.is_none() {
             println!("{name}: DISAGREE");
             return false;
         }

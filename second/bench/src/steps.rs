@@ -10,8 +10,9 @@
 
 use crate::judges::{by_library, Lent, Question};
 use crate::timing::{met, Least};
+use hraskell::Step;
 use second::netlists::Made;
-use second::Step;
+use second::reading::Reading;
 
 const LIMIT: u64 = 16_384;
 const REPEATS: u32 = 10;
@@ -90,8 +91,8 @@ fn print_row(terms: u32, step: f64, ratio: Option<f64>) {
 fn step_microseconds(growth: &Growth, terms: u32) -> Option<f64> {
     let long = [growth.building.as_slice(), &growth.keeping].concat();
     let made = &growth.made;
-    let short = Question::of(made, 0, LIMIT, &growth.building);
-    let long = Question::of(made, 0, LIMIT, &long);
+    let short = Question::of(made, Reading::Plain, LIMIT, &growth.building);
+    let long = Question::of(made, Reading::Plain, LIMIT, &long);
     let mut lent = Lent::to(&long);
     let (mut without, mut with) = (Least::new(), Least::new());
     for _ in 0..REPEATS {

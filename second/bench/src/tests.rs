@@ -40,8 +40,8 @@ fn order(random: &mut Random, made: &Made) -> Vec<u32> {
 }
 
 /// What the hash judge answers, if the second program answers the same, counts the same and logs the same.
-fn agreed(made: &Made, kind: u32, limit: u64, order: &[u32]) -> Verdict {
-    let question = Question::of(made, kind, limit, order);
+fn agreed(made: &Made, reading: Reading, limit: u64, order: &[u32]) -> Verdict {
+    let question = Question::of(made, reading, limit, order);
     let (mut to_hash, mut to_second) = (LentToHash::to(&question), Lent::to(&question));
     // A number that is left out has to be seen, and so has a record of the step of R.
     to_hash.occurrences.fill(u32::MAX);
@@ -49,7 +49,7 @@ fn agreed(made: &Made, kind: u32, limit: u64, order: &[u32]) -> Verdict {
     to_second.log.copy_from_slice(&marked_steps(order.len()));
     let hash = by_hash(&question, &mut to_hash);
     let second = by_second(&question, &mut to_second);
-    let asked = format!("{made:?}, kind {kind}, T {limit}, {order:?}");
+    let asked = format!("{made:?}, {reading:?}, T {limit}, {order:?}");
     assert_eq!(hash, second, "{asked}");
     assert_eq!(to_hash.occurrences, to_second.occurrences, "{asked}");
     assert_eq!(to_hash.log, to_second.log, "{asked}");
@@ -66,7 +66,7 @@ fn the_hash_judge_answers_as_the_second_program() {
             let made = netlist(&mut random, records, reading, 5);
             let order = order(&mut random, &made);
             let limit = random.pick(&[128, 200, 1_024]);
-            letters.insert(agreed(&made, reading.kind(), limit, &order).letter);
+            letters.insert(agreed(&made, reading, limit, &order).letter);
         }
         assert_eq!(letters, BTreeSet::from(['D', 'E', 'R', 'U']));
     }
@@ -79,8 +79,8 @@ fn the_hash_judge_answers_as_the_second_program_at_the_most_variables() {
         for records in Records::ALL {
             let made = random_for(&mut random, records, reading, reading.most_bits(), 959);
             let order = orders::falling(made.counts);
-            agreed(&made, reading.kind(), 16_384, &order[..40]);
-            agreed(&made, reading.kind(), 128, &order[..40]);
+            agreed(&made, reading, 16_384, &order[..40]);
+            agreed(&made, reading, 128, &order[..40]);
         }
     }
 }

@@ -1,8 +1,11 @@
-//! The second program behind the exported functions' own rules: numbers in place of answers, words in place of values.
+//! The second program behind the exported functions' own rules: numbers in place of answers, words in place of values. What it
+//! is handed and lent is what `hraskell::raw` takes.
 
-use crate::Question;
+use crate::types::{counts_for_second, step_for_library, step_for_second};
+use hraskell::raw::Question;
+use hraskell::{Counts, Lent};
 use second::rules::LENT_SHORT;
-use second::{evaluate_by, judge_by, read_by, Answer, Counts, Records, Rules};
+use second::{evaluate_by, judge_by, read_by, Answer, Records, Rules, Step};
 
 /// Added to a number of refusal.
 const REFUSED: u32 = 100;
@@ -105,7 +108,8 @@ impl Mirror {
 
     pub fn read(&self, text: &[u8], table: &mut [u32], counts: &mut [u32]) -> u32 {
         self.bounded(counts, COUNT_WORDS, || {
-            let Counts { m, i, l, o, a } = read_by(&self.rules, text, table)?;
+            let counts = read_by(&self.rules, text, table)?;
+            let second::Counts { m, i, l, o, a } = counts;
             Ok((0, vec![m, i, l, o, a]))
         })
     }
@@ -119,6 +123,7 @@ impl Mirror {
         y: u64,
         word: &mut [u64],
     ) -> u32 {
+        let counts = counts_for_second(counts);
         let records = self.boundary.records(cells);
         self.bounded(word, 1, || {
             let shown = evaluate_by(&self.rules, counts, table, records, x, y)?;
@@ -126,31 +131,33 @@ impl Mirror {
         })
     }
 
-    pub fn judge(&self, question: Question, answer: &mut [u64]) -> u32 {
+    pub fn judge(&self, question: Question, lent: Lent, answer: &mut [u64]) -> u32 {
         let records = self.boundary.records(question.cells);
         let needed = ANSWER_WORDS - usize::from(!self.boundary.c_is_measured);
-        self.bounded(answer, needed, || {
-            let Question {
-                counts,
-                table,
-                kind,
-                limit,
-                order,
-                lent,
-                ..
-            } = question;
+        // The second program has records of its own; what it leaves in them goes back to where the log was lent.
+        let mut log: Vec<Step> = lent.log.iter().copied().map(step_for_second).collect();
+        let number = self.bounded(answer, needed, || {
             let answer = judge_by(
                 &self.rules,
-                counts,
-                table,
+                counts_for_second(question.counts),
+                question.table,
                 records,
-                kind,
-                limit,
-                order,
-                lent,
+                question.kind,
+                question.limit,
+                question.order,
+                second::Lent {
+                    store: lent.store,
+                    scratch: lent.scratch,
+                    log: &mut log,
+                    occurrences: lent.occurrences,
+                },
             );
-            numbered(&self.boundary, kind, answer)
-        })
+            numbered(&self.boundary, question.kind, answer)
+        });
+        for (record, step) in lent.log.iter_mut().zip(log) {
+            *record = step_for_library(step);
+        }
+        number
     }
 
     /// Measures the buffer of the result, asks, and leaves the number and the words of what was answered.

@@ -1,7 +1,8 @@
 //! Lent buffers with guard words, what a call leaves in them, and the search for a case that tells two answerers apart.
 
+use crate::types::step_for_library;
+use hraskell::Step;
 use second::cases::{marked_numbers, marked_steps, marked_words};
-use second::Step;
 use std::fmt::Debug;
 
 /// Words past each buffer, or records past the log, that no call may touch.
@@ -62,7 +63,8 @@ impl Guarded<u64> {
 
 impl Guarded<Step> {
     pub fn marked(count: usize) -> Guarded<Step> {
-        let words = marked_steps(count + GUARDS);
+        let marks = marked_steps(count + GUARDS).into_iter();
+        let words = marks.map(step_for_library).collect();
         Guarded { words }
     }
 

@@ -1,13 +1,14 @@
 //! The evaluator: the library against the second program.
 
-use compare::library;
 use compare::mirror::{number_of, Mirror};
 use compare::outcome::{first_difference, numbers_given, Guarded, Outcome};
+use compare::types::counts_for_library;
+use hraskell::{raw, Counts};
 use second::blocks::{self, Block};
 use second::cases::pairs::{self, PairCase};
 use second::random::Random;
 use second::reading::{low_bits, Operands};
-use second::{wanted, Counts, Records};
+use second::{wanted, Records};
 use std::sync::LazyLock;
 
 type Generator = fn(&mut Random, Records) -> PairCase;
@@ -45,6 +46,7 @@ impl EvaluateCase {
         evaluator: impl Fn(Counts, &[u32], u32, u64, u64, &mut [u64]) -> u32,
     ) -> Outcome {
         let PairCase { counts, x, y, .. } = self.pair;
+        let counts = counts_for_library(counts);
         let table = Guarded::holding(&self.pair.table);
         let mut word = Guarded::<u64>::marked(self.result_words);
         let number = evaluator(counts, table.lent(), self.cells, x, y, word.lent_mut());
@@ -89,7 +91,7 @@ fn evaluating_gives_the_same_numbers_and_words() {
     assert!(CASES.len() >= 30_000);
     println!("{} cases of evaluating", CASES.len());
     let document = Mirror::of_document();
-    let library = |case: &EvaluateCase| case.outcome(library::evaluate);
+    let library = |case: &EvaluateCase| case.outcome(raw::evaluate);
     let difference = first_difference(&CASES, library, |case| case.by(&document));
     assert!(difference.is_none(), "{}", difference.unwrap());
 }
@@ -110,7 +112,8 @@ fn evaluating_real_blocks_gives_the_wanted_word() {
             let (x, y) = (x ^ random.word() & above, y ^ random.word() & above);
             let mut word = [0];
             let cells = number_of(made.records, 0);
-            let number = library::evaluate(made.counts, &made.table, cells, x, y, &mut word);
+            let counts = counts_for_library(made.counts);
+            let number = raw::evaluate(counts, &made.table, cells, x, y, &mut word);
             let expected = wanted(reading.kind(), *n, a, b, c);
             assert_eq!((number, word), (0, [expected]), "{}", block.name);
         }

@@ -2,7 +2,9 @@
 
 use compare::mirror::{number_of, Mirror};
 use compare::outcome::{first_difference, numbers_given, Guarded, Outcome, GUARDS};
-use compare::{library, Question};
+use compare::types::counts_for_library;
+use hraskell::raw::{self, Question};
+use hraskell::Lent;
 use second::cases::adding::{one_bit, only_c};
 use second::cases::cells::{and_cell, cell, eight_of_one};
 use second::cases::judgements::{self, all_false, and_netlist, two_bits, JudgeCase};
@@ -13,7 +15,7 @@ use second::netlists::{random_for, random_sound, Made};
 use second::orders;
 use second::random::Random;
 use second::reading::Reading;
-use second::{Lent, Records, Step};
+use second::{Records, Step};
 use std::collections::BTreeSet;
 use std::sync::LazyLock;
 
@@ -40,30 +42,30 @@ impl Call {
     }
 
     /// What a call on fresh buffers leaves, whoever answers it.
-    fn outcome(&self, judge: impl Fn(Question, &mut [u64]) -> u32) -> Outcome {
+    fn outcome(&self, judge: impl Fn(Question, Lent, &mut [u64]) -> u32) -> Outcome {
         let case = &self.case;
         let table = Guarded::holding(&case.table);
         let order = Guarded::holding(&case.order);
         let mut store = Guarded::<u64>::marked(case.store_words);
         let mut scratch = Guarded::<u64>::marked(case.scratch_words);
-        let mut log = Guarded::<Step>::marked(case.log_records);
+        let mut log = Guarded::<hraskell::Step>::marked(case.log_records);
         let mut occurrences = Guarded::<u32>::marked(case.occurrence_words);
         let mut answer = Guarded::<u64>::marked(self.answer_words);
         let question = Question {
-            counts: case.counts,
+            counts: counts_for_library(case.counts),
             table: table.lent(),
             cells: self.cells,
             kind: case.kind,
             limit: case.limit,
             order: order.lent(),
-            lent: Lent {
-                store: store.lent_mut(),
-                scratch: scratch.lent_mut(),
-                log: log.lent_mut(),
-                occurrences: occurrences.lent_mut(),
-            },
         };
-        let number = judge(question, answer.lent_mut());
+        let lent = Lent {
+            store: store.lent_mut(),
+            scratch: scratch.lent_mut(),
+            log: log.lent_mut(),
+            occurrences: occurrences.lent_mut(),
+        };
+        let number = judge(question, lent, answer.lent_mut());
         Outcome {
             number,
             buffers: vec![
@@ -79,11 +81,11 @@ impl Call {
     }
 
     fn by_library(&self) -> Outcome {
-        self.outcome(library::judge)
+        self.outcome(raw::judge)
     }
 
     fn by(&self, mirror: &Mirror) -> Outcome {
-        self.outcome(|question, answer| mirror.judge(question, answer))
+        self.outcome(|question, lent, answer| mirror.judge(question, lent, answer))
     }
 }
 
@@ -412,7 +414,7 @@ fn one_word_less_than_m_plus_1_is_refused_and_changes_nothing() {
         case.occurrence_words = expected.len() - 1;
         let outcome = Call::new(case.clone()).by_library();
         assert_eq!(outcome.number, 112, "{name}");
-        let nobody = Call::new(case).outcome(|_, _| 112);
+        let nobody = Call::new(case).outcome(|_, _, _| 112);
         assert!(outcome == nobody, "{name}: a word was changed");
     }
 }

@@ -1,8 +1,8 @@
 //! Reading: the library against the second program.
 
-use compare::library;
 use compare::mirror::Mirror;
 use compare::outcome::{first_difference, numbers_given, Guarded, Outcome};
+use hraskell::raw;
 use second::cases::damages::{cuts, Damage};
 use second::cases::judgements::two_bits;
 use second::cases::texts::{self, TextCase, AND_TEXT};
@@ -148,7 +148,7 @@ fn reading_gives_the_same_numbers_and_words() {
     assert!(CASES.len() >= 20_000);
     println!("{} cases of reading", CASES.len());
     let document = Mirror::of_document();
-    let library = |case: &ReadCase| case.outcome(library::read);
+    let library = |case: &ReadCase| case.outcome(raw::read);
     let difference = first_difference(&CASES, library, |case| case.by(&document));
     assert!(difference.is_none(), "{}", difference.unwrap());
 }

@@ -1,7 +1,6 @@
-//! The exported functions of the proved program, declared once for all that link it.
+//! The exported functions as C has them: numbers and lent slices in, a number out. They are declared here and nowhere else in Rust.
 
-use crate::Question;
-use second::{Counts, Step};
+use crate::{Counts, Lent, Step};
 
 extern "C" {
     fn hraskell_read(
@@ -54,7 +53,18 @@ extern "C" {
     ) -> u32;
 }
 
-/// The library's reader.
+/// What the judge is asked, in C's numbers: any number may stand for the records and for the kind.
+#[derive(Clone, Copy)]
+pub struct Question<'a> {
+    pub counts: Counts,
+    pub table: &'a [u32],
+    pub cells: u32,
+    pub kind: u32,
+    pub limit: u64,
+    pub order: &'a [u32],
+}
+
+/// The reader: the table and the five counts in front of what is lent, and 0; or a refusal's number plus 100.
 #[rustfmt::skip]
 pub fn read(text: &[u8], table: &mut [u32], counts: &mut [u32]) -> u32 {
     // SAFETY: slices are never null, and those lent for writing overlap nothing.
@@ -67,7 +77,7 @@ pub fn read(text: &[u8], table: &mut [u32], counts: &mut [u32]) -> u32 {
     }
 }
 
-/// The library's evaluator of one operand pair.
+/// The evaluator at one choice of the operands: the word in front of what is lent, and 0; or a refusal's number plus 100.
 #[rustfmt::skip]
 pub fn evaluate(counts: Counts, table: &[u32], cells: u32, x: u64, y: u64, word: &mut [u64]) -> u32 {
     let Counts { m, i, l, o, a } = counts;
@@ -82,11 +92,11 @@ pub fn evaluate(counts: Counts, table: &[u32], cells: u32, x: u64, y: u64, word:
     }
 }
 
-/// The library's judge.
+/// The judge: 0 to 3 for E, D, R and U with the values in front of `answer`; or a refusal's number plus 100.
 #[rustfmt::skip]
-pub fn judge(question: Question, answer: &mut [u64]) -> u32 {
+pub fn judge(question: Question, lent: Lent, answer: &mut [u64]) -> u32 {
     let Counts { m, i, l, o, a } = question.counts;
-    let (table, order, lent) = (question.table, question.order, question.lent);
+    let (table, order) = (question.table, question.order);
     // SAFETY: slices are never null, those lent for writing overlap nothing, and a record is laid out as in C.
     unsafe {
         hraskell_judge(

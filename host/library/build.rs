@@ -17,7 +17,7 @@ fn main() {
     println!("cargo::rerun-if-changed={}", archive.display());
     if !archive.is_file() {
         let path = archive.display();
-        println!("cargo::error=there is no static library to compare with: {path} is missing");
+        println!("cargo::error=there is no static library to link: {path} is missing");
         println!(
             "cargo::error=build it with `rt staticlib exports`, or name its folder in HRASKELL_LIB"
         );

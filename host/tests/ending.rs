@@ -92,28 +92,21 @@ fn a_signal_ends_it_while_it_judges() {
     }
 }
 
+/// The program with a netlist on its standard input, and nobody left who reads what it prints.
+fn unread(mut child: Child) -> Child {
+    drop(child.stdout.take());
+    let mut input = child.stdin.take().unwrap();
+    input.write_all(AND.as_bytes()).unwrap();
+    child
+}
+
 #[test]
 fn a_reader_that_is_gone_ends_it_quietly() {
     let home = folder("pipe");
-    let mut child = waiting(&home);
-    drop(child.stdout.take());
-    child
-        .stdin
-        .take()
-        .unwrap()
-        .write_all(AND.as_bytes())
-        .unwrap();
-    ended(child).has("", 4).tells_nothing();
+    ended(unread(waiting(&home))).has("", 4).tells_nothing();
     assert_eq!(names_in(&home), Vec::<String>::new());
-    let mut child = started(program().args(["u", "-", "/no/such/file"]));
-    drop(child.stdout.take());
-    child
-        .stdin
-        .take()
-        .unwrap()
-        .write_all(AND.as_bytes())
-        .unwrap();
-    ended(child).has("", 4);
+    let child = started(program().args(["u", "-", "/no/such/file"]));
+    ended(unread(child)).has("", 4);
 }
 
 #[test]

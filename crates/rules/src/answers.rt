@@ -2,21 +2,21 @@
 use crate::counts::Counts;
 
 // Of reading a netlist text.
-#[derive(Drop)]
+#[derive(Clone, Copy)]
 pub enum Text {
     Read(Counts),
     Refused(u32),
 }
 
 // Of evaluating one pair of words, and of asking for the wanted word of operands.
-#[derive(Drop)]
+#[derive(Clone, Copy)]
 pub enum Word {
     Is(u64),
     Refused(u32),
 }
 
 // Of judging.
-#[derive(Drop)]
+#[derive(Clone, Copy)]
 pub enum Answer {
     Equal {
         steps: usize,
@@ -44,7 +44,7 @@ pub enum Answer {
 
 // In the log of the judge, for a step completed: its gate, the number of terms after it, and the number before like ones were gathered.
 #[repr(C)]
-#[derive(Drop)]
+#[derive(Clone, Copy)]
 pub struct StepRecord {
     pub gate: u32,
     pub terms: u32,
@@ -52,7 +52,7 @@ pub struct StepRecord {
 }
 
 // Of the desk program: the bytes of its line, then zeros, and how many bytes the line has.
-#[derive(Drop)]
+#[derive(Clone, Copy)]
 pub struct Line {
     pub bytes: [u8; 151],
     pub len: usize,

@@ -1,7 +1,7 @@
 // The five numbers of a netlist's header line, and the kind of record that its table has.
 use crate::records::RecordKind;
 
-#[derive(Drop)]
+#[derive(Clone, Copy)]
 pub struct Counts {
     pub m: u32,
     pub i: u32,

@@ -2,14 +2,14 @@
 ghost use Rattle.rules.specs.Limits.{Makes};
 
 // Limits that lie within their bounds: term limit, variables M and steps of the order.
-#[derive(Drop)]
+#[derive(Clone, Copy)]
 pub struct Limits {
     pub terms: usize,
     pub variables: usize,
     pub steps: usize,
 }
 
-#[derive(Drop)]
+#[derive(Clone, Copy)]
 pub enum Made {
     Within(Limits),
     Refused(u32),
@@ -43,6 +43,7 @@ impl Limits {
     pub const DESK_TERMS: u64 = 512;
 
     // The limits where all three lie within their bounds, or the first refusal in the order of checks.
+    #[tactic(auto, using(std::proofs::lemmas::Bool::Decides::nat_tests), unfolding(crate::specs::Limits::variables_wrong, crate::specs::Limits::terms_wrong, crate::specs::Limits::steps_wrong, crate::specs::Limits::making, crate::specs::Says::first, crate::specs::Says::refuse_or, crate::specs::Says::made_says))]
     pub fn made(terms: u64, variables: u32, steps: usize) -> Made
         ensures { Makes terms variables steps result }
     {

@@ -44,6 +44,7 @@ field_forth end x rest d h =
       drop-append_seam,
       behind_forth end rest,
       with_numbers,
+      leading_number (decimal x) end rest (decimal_digits x) d,
       decimal_value x,
     )
 

@@ -1,5 +1,5 @@
 -- "Equal" and "differs" say what is so of the outputs.
-use mathlib.Core.Path.{◌≡◌, sym, ◌∙◌}
+use mathlib.Core.Path.{◌≡◌, sym, subst, ◌∙◌}
 use mathlib.Core.Bool.{true}
 use mathlib.Core.List.{[], ◌∷◌}
 use Prim.Native.Nat.{ℕ, suc, ◌+◌, ◌%◌, ◌^◌, ◌<◌}
@@ -123,13 +123,15 @@ module _ (x : Inputs) (ok : Passed x) where
     value_there a b c o first =
         let words = two_words (kind_of x.kind) x.counts fit a b c o.0 o.1 o.2 in
         rw (parts, ← words.set)
-        (pair_value x.counts x.table _ _ words.first words.second (t ∷ p) (rw words.inputs set_below) (rw words.set first))
+        (pair_value x.counts x.table _ _ words.first words.second (t ∷ p)
+        (subst (λ (k : ℕ). AllSets (λ s. s < 2 ^ suc k) (t ∷ p)) (sym words.inputs) set_below)
+        (subst (λ (u : ℕ). AllSets (NotAfter u) (t ∷ p)) (sym words.set) first))
 
     module _ (a b c : ℕ) (o : Operands x a b c) (own : operand_set (bits x) a b c ≡ soon) where
       -- the operands of the soonest set go wrong
       goes_wrong : got x a b c ≡ wanted x a b c → ⊥
       goes_wrong =
-          let there = value_there a b c o (rw own (soonest_first t.1 p)) in
+          let there = value_there a b c o (subst (λ (u : ℕ). AllSets (NotAfter u) (t ∷ p)) (sym own) (soonest_first t.1 p)) in
           let some = soonest_all (λ s. 0 < coefficient_at (t ∷ p) s) (coefficient_positive (all_words x) (t ∷ p) shape.coefficients) in
           let below = coefficient_lt (all_words x) _ (t ∷ p) soon (modulus_positive (kind_of x.kind) x.counts) shape.falling shape.coefficients in
           words_differ a b c o (rw (there, own) some) (rw (there, own) below)

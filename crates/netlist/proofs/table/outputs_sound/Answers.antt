@@ -1,0 +1,35 @@
+use mathlib.Core.Path.{◌≡◌, refl, ap}
+use Prim.Native.Nat.{ℕ, ◌+◌, ◌*◌}
+use native.Mathlib.Omega.{arith}
+use lib.Dec.{leb}
+use Rattle.rules.specs.Each.{each}
+use Rattle.rules.specs.Netlist.{output_sound}
+use Rattle.netlist.proofs.Facts.{facts, each_more}
+use Rattle.netlist.proofs.table.outputs_sound.Goals as goal
+
+pub loop-i-init : goal.loop-i-init
+unfolding each
+loop-i-init c = (omega arith, refl)
+
+pub output-requires : goal.output-requires
+output-requires c = (c.requires, omega arith)
+
+pub overflow_mul-sound : goal.overflow_mul-sound
+overflow_mul-sound c = omega (arith, facts c.requires)
+
+pub overflow_add-sound : goal.overflow_add-sound
+overflow_add-sound c = omega (arith, facts c.requires)
+
+pub overflow_add-i : goal.overflow_add-i
+overflow_add-i c = omega (arith, facts c.requires)
+
+pub loop-i-preserved : goal.loop-i-preserved
+unfolding output_sound
+loop-i-preserved c =
+    let m = c.args.c.m in
+    (omega arith, each_more _ _ _ _ c.loop-i.invariant.1 (ap (λ (x : ℕ). leb x (2 * m + 1)) c.output.ensures))
+
+pub returns : goal.returns
+returns c =
+    let e : c.loop-i.i ≡ c.args.c.o = omega arith in
+    rw e at c.loop-i.invariant.1

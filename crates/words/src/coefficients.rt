@@ -2,6 +2,7 @@
 ghost use Rattle.std.specs.Prelude.{◌≡◌, ◌+◌, ◌-◌, ◌%◌, ◌^◌, ◌≤◌};
 
 // c dropped to l bits.
+#[tactic(auto, using(crate::proofs::Numbers::one_shifted))]
 fn dropped(c: u64, l: u32) -> u64
     requires { l ≤ 64 }
     ensures { result ≡ c % 2 ^ l }

@@ -3,7 +3,7 @@ ghost use Rattle.std.specs.Prelude.{◌≡◌, ◌+◌, ◌*◌, ◌/◌, ◌%�
 ghost use Rattle.rules.specs.Values.{bit};
 ghost use Rattle.words.specs.Numbers.{num, words_at, masked, order_of};
 
-#[derive(Drop)]
+#[derive(Clone, Copy)]
 pub enum Order {
     Less,
     Same,

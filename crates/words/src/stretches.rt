@@ -52,6 +52,7 @@ fn move_up(words: &mut [u64], from: usize, to: usize, n: usize)
 }
 
 // Moves the n words at `from` to `to`. What stood at `from` and is not overwritten stays.
+#[tactic(auto, using(crate::proofs::Writing::move_none))]
 pub fn shift(words: &mut [u64], from: usize, to: usize, n: usize)
     requires { (from + n ≤ length words.old) × (to + n ≤ length words.old) }
     ensures { words.new ≡ moved from to n words.old }

@@ -203,6 +203,20 @@ pub number_right : {text : List ℕ} {at value next : ℕ} → Digits text at va
 unfolding number_at
 number_right d h = rw (h, d.values, d.end)
 
+-- one digit is a number, whichever it is
+pub number_one : (text : List ℕ) (at value next : ℕ) → Read value next ≡ digits_at text at → next - at ≡ 1 → Read value next ≡ number_at text at
+number_one text at value next h one =
+    let d = digits_read text at value next h in
+    number_right d (right_one (leading_digits (drop at text)) (omega (arith, d.end)) d.few (omega (arith, d.end)))
+
+-- a zero in front of other digits is none
+pub number_zero : (text : List ℕ) (at value next : ℕ) → Read value next ≡ digits_at text at → (next ≡ at → ⊥) → (next - at ≡ 1 → ⊥) → get_or text at 0 ≡ 48
+    → Missing ≡ number_at text at
+number_zero text at value next h some more zero =
+    let d = digits_read text at value next h in
+    let first = (first_here text at (omega (arith, d.end))).1 in
+    number_wrong text at (wrong_zero (leading_digits (drop at text)) (omega (arith, d.end)) d.few (omega arith) (omega (arith, d.end)))
+
 -- where no number stands there is no field
 pub field_missing : (end : ℕ) (text : List ℕ) (at : ℕ) → Missing ≡ number_at text at → field end (drop at text) ≡ missing
 unfolding number_at field

@@ -5,14 +5,14 @@ ghost use Rattle.rules.specs.Reading.{behind, field};
 ghost use Rattle.lines.specs.Found.{place_scan, value_scan, digits_at, number_at};
 
 // The place behind what was asked for.
-#[derive(Drop)]
+#[derive(Clone, Copy)]
 pub enum Place {
     At(usize),
     Missing,
 }
 
 // A number, and the place behind it.
-#[derive(Drop)]
+#[derive(Clone, Copy)]
 pub enum Value {
     Read(u32, usize),
     Missing,
@@ -34,6 +34,7 @@ pub fn behind(text: &[u8], at: usize, x: u8) -> Place
 }
 
 // Up to four digits, which may be none. A fifth ends the reading at once.
+#[tactic(auto, using(crate::proofs::Digits::passed_many))]
 pub fn digits(text: &[u8], at: usize) -> Value
     ensures { result ≡ digits_at text.now at }
 {
@@ -57,6 +58,7 @@ pub fn digits(text: &[u8], at: usize) -> Value
 }
 
 // One to four digits, with a leading zero only where it is the one digit.
+#[tactic(auto, using(crate::proofs::Digits::number_one, crate::proofs::Digits::number_zero))]
 pub fn number(text: &[u8], at: usize) -> Value
     ensures { result ≡ number_at text.now at }
 {

@@ -10,21 +10,21 @@ use rules::counts::Counts;
 use rules::records::RecordKind;
 
 // The header's five numbers, with the kind of record, and the place behind it.
-#[derive(Drop)]
+#[derive(Clone, Copy)]
 pub enum Heading {
     Read(Counts, usize),
     Missing,
 }
 
 // The two literals of a gate, and the place behind its line.
-#[derive(Drop)]
+#[derive(Clone, Copy)]
 pub enum Gate {
     Read(u32, u32, usize),
     Missing,
 }
 
 // The sections of lines that follow the header.
-#[derive(Drop)]
+#[derive(Clone, Copy)]
 pub enum Section {
     Inputs,
     Outputs,
@@ -114,6 +114,7 @@ pub fn output_line(text: &[u8], at: usize, c: Counts) -> Value
 }
 
 // The k-th gate line, from 0: its own literal, and two that fall.
+#[tactic(auto, using(std::proofs::lemmas::Bool::Decides::nat_tests), unfolding(crate::specs::Sections::gate_scan, crate::specs::Found::value_scan, rules::specs::Netlist::gate, rules::specs::Netlist::gate_sound, rules::specs::Reading::gate_line, rules::specs::Reading::tested, rules::specs::Reading::fields, rules::specs::Reading::and_then, rules::specs::Reading::with_numbers))]
 pub fn gate_line(text: &[u8], at: usize, c: Counts, k: u32) -> Gate
     ensures { gate_scan text.now result ≡ gate_line c k (drop at text.now) }
 {

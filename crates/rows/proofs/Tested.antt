@@ -64,4 +64,4 @@ unfolding Right
 right_read list byte from u right e l =
     let bounds = coefficient_small byte u l in
     let whole : 16 * (byte / 16) + byte % 16 ≡ byte = omega arith in
-    rw (e, right (byte % 16) u (omega arith) l, whole) (to_z-of_z (record { sfits = small (coefficient byte u) bounds.0 bounds.1 }))
+    rw (e, right (byte % 16) u (omega arith) l, whole) (to_z-of_z {w = w8} (record { sfits = small (coefficient byte u) bounds.0 bounds.1 }))

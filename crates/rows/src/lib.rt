@@ -1,4 +1,6 @@
 // The whole coefficients of every truth byte over three variables, from a fixed table.
+#![tactic(auto)]
+
 ghost use Rattle.std.specs.Prelude.{◌≡◌, ◌+◌, ◌*◌, ◌%◌, ◌≤◌, length};
 ghost use Rattle.rows.specs.Rows.{Right, Written};
 

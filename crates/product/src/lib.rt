@@ -1,4 +1,6 @@
 // What each kind asks: its operands and outputs, and the wanted word.
+#![tactic(auto)]
+
 ghost use Rattle.std.specs.Prelude.{◌≡◌, ◌%◌, ◌^◌, ◌<◌, ◌≤◌};
 ghost use Rattle.rules.specs.Product.{kind_of, kind_unknown, operand_width, addend_width, first_word, second_word, outputs_of, width_wrong, wanted_word, Wanted};
 ghost use Rattle.rules.specs.Product as rule;
@@ -88,6 +90,7 @@ pub fn second_word(kind: u32, b: u64, c: u64) -> u64
 }
 
 // The outputs of a block whose a and b have n bits.
+#[tactic(auto, using(crate::proofs::Readings::outputs_whole), unfolding(rules::specs::Product::kind_of, rules::specs::Product::outputs_of))]
 pub fn outputs(kind: u32, n: u32) -> u32
     requires { n ≤ 32 }
     ensures { result ≡ outputs_of (kind_of kind) n }
@@ -158,6 +161,7 @@ pub fn word_for(kind: u32, n: u32, a: u64, b: u64, c: u64) -> u64
 }
 
 // The wanted word of operands, or the first refusal in the order of checks.
+#[tactic(auto, using(crate::proofs::Readings::width_right), unfolding(rules::specs::Product::wanting, rules::specs::Says::first, rules::specs::Says::refuse_or, rules::specs::Says::word_says))]
 pub fn wanted(kind: u32, n: u32, a: u64, b: u64, c: u64) -> Word
     ensures { Wanted kind n a b c result }
 {

@@ -98,7 +98,7 @@ pub fn holding(store: &[u64], n: usize, w: usize, v: usize, from: usize, end: us
 }
 
 // A stretch of terms, from `low` to before `high`.
-#[derive(Drop)]
+#[derive(Clone, Copy)]
 pub struct Range {
     pub low: usize,
     pub high: usize,

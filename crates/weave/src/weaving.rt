@@ -13,7 +13,7 @@ use words::coefficients::sum;
 
 // What is woven: n terms of a store, none of which holds v from `end` on, and as many new ones as were made. A set has w words and
 // uses k; a coefficient has l bits.
-#[derive(Drop)]
+#[derive(Clone, Copy)]
 pub struct Sizes {
     pub n: usize,
     pub w: usize,
@@ -26,7 +26,7 @@ pub struct Sizes {
 }
 
 // How far the weave is: the store's next term and the next one that holds v, the new terms used, and the terms written.
-#[derive(Drop)]
+#[derive(Clone, Copy)]
 pub struct Place {
     pub at: usize,
     pub stop: usize,
@@ -36,7 +36,7 @@ pub struct Place {
 
 // The result in two parts: `out` terms in front of scratch, and behind them the store's from the `at`-th on. More than the limit in
 // scratch means that there is no room.
-#[derive(Drop)]
+#[derive(Clone, Copy)]
 pub struct Parts {
     pub out: usize,
     pub at: usize,

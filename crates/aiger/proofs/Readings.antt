@@ -4,7 +4,7 @@ use mathlib.Core.Bool.{true, false}
 use mathlib.Core.List.{List, [], ◌∷◌, ◌++◌}
 use Prim.Native.Nat.{ℕ, ◌<◌}
 use native.Mathlib.Omega.{arith}
-use lib.ListN.{length, drop}
+use lib.ListN.{length, drop, length-drop}
 use borrow.Author.Tests.{ltb-false}
 use Rattle.rules.specs.Netlist.{needed, counts_wrong, table_short}
 use Rattle.rules.specs.Says.{first}
@@ -28,14 +28,33 @@ unfolding bare
 bare_found (found numbers rest) text e = (numbers, cc)
 bare_found missing text e = absurd (found_missing (sym e))
 
+-- the numbers that were found, and the text behind them
+pub numbers_of : Scan → List ℕ
+numbers_of (found numbers text) = numbers
+numbers_of missing = []
+
+pub text_of : Scan → List ℕ
+text_of (found numbers text) = text
+text_of missing = []
+
+-- what is not missing without its numbers is found with them
+pub bare_both : (s : Scan) → (bare s ≡ missing → ⊥) → (bare s ≡ found [] (text_of s)) × (s ≡ found (numbers_of s) (text_of s))
+unfolding bare numbers_of text_of
+bare_both (found numbers text) h = (refl, refl)
+bare_both missing h = absurd (h refl)
+
 -- a byte behind the last line
 byte_left : (c : Counts) (words text : List ℕ) → 0 < length text → end_read c words text ≡ refused 7
 unfolding end_read
 byte_left c words [] h = absurd (omega arith)
 byte_left c words (x ∷ text) h = refl
 
+-- the same, where the last line ends before the text does
+pub byte_behind : (c : Counts) (words text : List ℕ) (end : ℕ) → end < length text → end_read c words (drop end text) ≡ refused 7
+byte_behind c words text end h = byte_left c words (drop end text) (simp length-drop (omega arith))
+
 -- the counts of AND gates are those that their five numbers are
-counts_back : (c : Counts) → c.records ≡ Gates → counts_of (c.m ∷ c.i ∷ c.l ∷ c.o ∷ c.a ∷ []) ≡ c
+pub counts_back : (c : Counts) → c.records ≡ Gates → counts_of (c.m ∷ c.i ∷ c.l ∷ c.o ∷ c.a ∷ []) ≡ c
 unfolding counts_of
 counts_back c e = sym (ap (λ (k : RecordKind). record { m = c.m; i = c.i; l = c.l; o = c.o; a = c.a; records = k }) e)
 
@@ -101,10 +120,6 @@ module _ (text : List ℕ) (lent : ℕ) where
               all : reading lent text ≡ end_read c ((bare_found _ _ e₃).0 ++ (bare_found _ _ e₄).0) t₄
               unfolding gates_read
               all = gates ∙ ap (gates_read c (bare_found _ _ e₃).0) (bare_found _ _ e₄).1
-
-              -- bytes behind the last line (7)
-              pub end_refused : 0 < length t₄ → reading lent text ≡ refused 7
-              end_refused h = all ∙ byte_left c _ t₄ h
 
               -- none: the text is right
               pub all_right : (at : ℕ) → t₂ ≡ drop at text → t₄ ≡ [] → RightText text lent c at

@@ -1,5 +1,7 @@
 // Reads a netlist text into a table of literals: one pass checks every line and writes nothing, and where all are
 // right a second pass writes.
+#![tactic(auto)]
+
 mod tables; // tables.rt: the second pass
 
 ghost use Rattle.rules.specs.Reading.{ReadAs};
@@ -13,13 +15,14 @@ use rules::answers::Text;
 use rules::counts::Counts;
 
 // What the first pass finds: a right text, its counts and the place of its output lines, or the refusal.
-#[derive(Drop)]
+#[derive(Clone, Copy)]
 enum Outcome {
     Right(Counts, usize),
     Refused(u32),
 }
 
 // The first pass, for a table of so many words: the refusals in the order of the text.
+#[tactic(auto, using(crate::proofs::Readings::counts_back, crate::proofs::Readings::byte_behind, crate::proofs::Readings::bare_both), unfolding(rules::specs::Reading::reading, rules::specs::Reading::header_read, rules::specs::Reading::counts_read, rules::specs::Reading::inputs_read, rules::specs::Reading::outputs_read, rules::specs::Reading::gates_read, rules::specs::Says::first, lines::specs::Sections::heading_scan, lines::specs::Sections::heading_records, lines::specs::Sections::section_line, lines::specs::Found::place_scan))]
 fn checked(text: &[u8], words: usize) -> Outcome
     ensures { Checked text.now words result }
 {

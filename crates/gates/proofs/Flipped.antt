@@ -54,9 +54,9 @@ differ_none zero = refl
 differ_none (suc x) = refl
 
 -- a bit under a mask
-bit_xor : (s t i : ℕ) → bit (bit_xor s t) i ≡ differ (bit s i) (bit t i)
+bit_of_xor : (s t i : ℕ) → bit (bit_xor s t) i ≡ differ (bit s i) (bit t i)
 unfolding bit
-bit_xor s t i = rw (xor_shr, xor_step, mul-add-mod_self_right) (mod-eq_of_lt (differ_lt (s / 2 ^ i % 2) (t / 2 ^ i % 2) (omega arith) (omega arith)))
+bit_of_xor s t i = rw (xor_shr, xor_step, mul-add-mod_self_right) (mod-eq_of_lt (differ_lt (s / 2 ^ i % 2) (t / 2 ^ i % 2) (omega arith) (omega arith)))
 
 -- the set of v alone has no other variable
 power_other : (v i : ℕ) → (i ≡ v → ⊥) → bit (2 ^ v) i ≡ 0
@@ -84,7 +84,7 @@ power_other v i n = go (less i v)
 
 -- the other variables stay
 pub flip_other : (s v i : ℕ) → (i ≡ v → ⊥) → bit (bit_xor s (2 ^ v)) i ≡ bit s i
-flip_other s v i n = bit_xor s (2 ^ v) i ∙ ap (differ (bit s i)) (power_other v i n) ∙ differ_none (bit s i)
+flip_other s v i n = bit_of_xor s (2 ^ v) i ∙ ap (differ (bit s i)) (power_other v i n) ∙ differ_none (bit s i)
 
 -- three bits, added without carry in either order
 differ_assoc : (x y z : ℕ) → x < 2 → y < 2 → z < 2 → differ (differ x y) z ≡ differ x (differ y z)
@@ -118,4 +118,4 @@ power_same v = rw (div_self (pow_pos v))
 
 -- v was not there: now it is
 pub flip_same : (s v : ℕ) → bit s v ≡ 0 → bit (bit_xor s (2 ^ v)) v ≡ 1
-flip_same s v e = bit_xor s (2 ^ v) v ∙ rw (e, power_same v)
+flip_same s v e = bit_of_xor s (2 ^ v) v ∙ rw (e, power_same v)

@@ -102,11 +102,11 @@ sum_fits a b h k = sfits_of (omega (arith, mag_within (a +ℤ b) 1728 (whole_wit
 
 -- a whole number near 0, written in 16 bits and read back
 pub read_back : (z : ℤ) → (above z ≤ 1728) × (below z ≤ 1728) → to_z w16 (of_z w16 z) ≡ z
-read_back z h = to_z-of_z (sfits_of (omega (arith, mag_within z 1728 h)))
+read_back z h = to_z-of_z {w = w16} (sfits_of (omega (arith, mag_within z 1728 h)))
 
 -- so in 8 bits, where it lies nearer
 pub read_back_narrow : (z : ℤ) → (above z ≤ 4) × (below z ≤ 4) → to_z w8 (of_z w8 z) ≡ z
-read_back_narrow z h = to_z-of_z (sfits_of (omega (arith, mag_within z 4 h)))
+read_back_narrow z h = to_z-of_z {w = w8} (sfits_of (omega (arith, mag_within z 4 h)))
 
 -- and it has room in 16
 pub narrow_fits : (z : ℤ) → (above z ≤ 4) × (below z ≤ 4) → SFits w16 z

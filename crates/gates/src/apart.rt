@@ -10,7 +10,7 @@ use crate::multipliers::plus;
 use rules::records::Record;
 
 // Three distinct variables, or 0 where there is none.
-#[derive(Drop)]
+#[derive(Clone, Copy)]
 pub struct Variables {
     pub x: usize,
     pub y: usize,
@@ -18,7 +18,7 @@ pub struct Variables {
 }
 
 // Such variables, and how many terms their record makes of one before like ones meet.
-#[derive(Drop)]
+#[derive(Clone, Copy)]
 pub struct Parts {
     pub x: usize,
     pub y: usize,
@@ -80,6 +80,7 @@ fn widen(narrow: &[i8], row: &mut [i16])
 }
 
 // The coefficient at u, unless it puts variable k in.
+#[tactic(auto, using(crate::proofs::Written::near_back, std::proofs::lemmas::Bool::Decides::nat_tests), unfolding(crate::specs::Rows::row_of, crate::specs::Rows::leaving, rules::specs::Values::bit))]
 fn kept(row: &[i16], k: usize, u: usize) -> i16
     requires { (length row.now ≡ 8) × (u < 8) × (k < 3) × Near 36 u (row_of row.now) }
     ensures { result ≡ leaving 0 k (row_of row.now) u }

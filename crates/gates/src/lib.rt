@@ -1,4 +1,6 @@
 // A gate as what the streams of a step need to know of it: its polynomial brought apart, then the multipliers and the masks.
+#![tactic(auto)]
+
 pub mod apart; // apart.rt: the coefficients of a record, over variables of which none stands twice
 pub mod making; // making.rt: how many terms a row of coefficients makes of one
 pub mod multipliers; // multipliers.rt: what a stream takes of a coefficient

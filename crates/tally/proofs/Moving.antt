@@ -1,8 +1,7 @@
 -- How numbers move: by what goes and what comes, one move behind the other.
-use Rattle.std.proofs.Common.{◌≡◌, ℕ, ◌+◌, ◌-◌, ◌*◌, ◌%◌, ◌^◌, List, get_or, refl, ◌∙◌, add-zero, one-mul, zero-mul, arith}
+use Rattle.std.proofs.Common.{◌≡◌, ℕ, ◌+◌, ◌*◌, ◌%◌, ◌^◌, List, get_or, refl, ◌∙◌, add-zero, one-mul, arith}
 use native.Mathlib.Nat.{mod-mod, mod-add-mod, add-mul-mod_self_left}
-use Rattle.rules.specs.Occurrences.{counts_at}
-use Rattle.tally.specs.Marks.{Marked, Moved, times_counts}
+use Rattle.tally.specs.Marks.{Marked, Moved}
 
 -- two moves of one number, modulo m
 two_moves : (m a b c gone gone' come come' : ℕ) → (b + gone) % m ≡ (a + come) % m → (c + gone') % m ≡ (b + come') % m
@@ -39,21 +38,3 @@ moved_gone {gone} {come} {n₀} {n} none m =
           let whole : get_or n₀ u 0 + 4294967295 * gone u + gone u ≡ get_or n₀ u 0 + 2 ^ 32 * gone u = omega arith in
           rw (none u, add-zero, m.each u l, mod-add-mod, whole) (add-mul-mod_self_left (get_or n₀ u 0) (2 ^ 32) (gone u));
     }
-
--- a set that was there as often as it is
-pub change_none : (gone come s : ℕ) {n : List ℕ} → gone ≡ come → Moved (times_counts gone s) (times_counts come s) n n
-unfolding times_counts
-change_none gone come s e = moved_same (λ u. rw e)
-
--- a set that was not there, and one that was
-pub change_come : (gone come s : ℕ) {n₀ n : List ℕ} → gone ≡ 0 → come ≡ 1 → Marked 1 (counts_at s) n₀ n → Moved (times_counts gone s) (times_counts come s) n₀ n
-unfolding times_counts
-change_come gone come s none one m =
-    let by : Moved (λ u. 0) (counts_at s) _ _ = moved_come (λ u. refl) m in
-    record { long = by.long; each = λ u l. rw (none, one, zero-mul, one-mul) (by.each u l) }
-
-pub change_gone : (gone come s : ℕ) {n₀ n : List ℕ} → gone ≡ 1 → come ≡ 0 → Marked 4294967295 (counts_at s) n₀ n → Moved (times_counts gone s) (times_counts come s) n₀ n
-unfolding times_counts
-change_gone gone come s one none m =
-    let by : Moved (counts_at s) (λ u. 0) _ _ = moved_gone (λ u. refl) m in
-    record { long = by.long; each = λ u l. rw (one, none, zero-mul, one-mul) (by.each u l) }

@@ -1,4 +1,6 @@
 // Numbers of occurrences in lent words of 32 bits. They wrap at 2^32, so 2^32 - 1 takes one away, and a number may be taken before it is given.
+#![tactic(auto)]
+
 ghost use Rattle.std.specs.Prelude.{◌≡◌, ◌+◌, ◌*◌, ◌^◌, ◌<◌, ◌≤◌, length, drop, replicate};
 ghost use Rattle.rules.specs.Each.{listed};
 ghost use Rattle.rules.specs.Occurrences.{counts_at, occurring};
@@ -80,6 +82,7 @@ pub fn count(store: &[u64], n: usize, w: usize, k: usize, numbers: &mut [u32])
 }
 
 // The numbers where the set of the term at word t was there `gone` times, 0 or 1, and is there `come` times.
+#[tactic(auto, unfolding(crate::specs::Marks::times_counts))]
 pub fn mark_change(words: &[u64], t: usize, k: usize, gone: usize, come: usize, numbers: &mut [u32])
     requires { (gone ≤ 1) × (come ≤ 1) × (t + (k + 1) ≤ length words.now) × (k ≤ 16) × (0 < length numbers.old)
         × (num (words_at words.now (t + 1) k) < 2 ^ length numbers.old) × (bit (num (words_at words.now (t + 1) k)) 0 ≡ 0) }
@@ -96,7 +99,7 @@ pub fn mark_change(words: &[u64], t: usize, k: usize, gone: usize, come: usize, 
 }
 
 // How many terms of two lists were passed.
-#[derive(Drop)]
+#[derive(Clone, Copy)]
 struct Passed {
     before: usize,
     after: usize,

@@ -1,4 +1,6 @@
 // The start polynomial in lent words, written term by term in the order in which its sets fall.
+#![tactic(auto)]
+
 mod falling; // falling.rt: all terms in falling order
 mod terms; // terms.rt: one term more
 mod weights; // weights.rt: what the terms weigh
@@ -6,7 +8,7 @@ mod weights; // weights.rt: what the terms weigh
 ghost use Rattle.std.specs.Prelude.{length};
 ghost use Rattle.rules.specs.Product.{kind_of};
 ghost use Rattle.rules.specs.Judging.{set_width};
-ghost use Rattle.rules.specs.Steps.{start as start_of_lem};
+ghost use Rattle.rules.specs.Steps.{start as start_of};
 ghost use Rattle.start.specs.Start.{Asked, Started};
 
 use crate::falling::emit_all;
@@ -19,7 +21,7 @@ use words::stretches::clear;
 // store is all zeros again.
 pub fn start(c: Counts, table: &[u32], kind: u32, limit: usize, store: &mut [u64]) -> usize
     requires { Asked c table.now kind limit store.old }
-    ensures { Started (start_of_lem (kind_of kind) c table.now) (set_width c) limit (length store.old) result store.new }
+    ensures { Started (start_of (kind_of kind) c table.now) (set_width c) limit (length store.old) result store.new }
 {
     let bits = operand_bits(c, kind);
     let n = bits as usize;

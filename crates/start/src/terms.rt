@@ -26,6 +26,7 @@ fn write_term(store: &mut [u64], t: usize, w: usize, c: u64, x: usize, y: usize)
 }
 
 // Counts and writes the term c x y, unless c is 0 or the limit is reached. The new count; one more than the limit from then on.
+#[tactic(auto, using(crate::proofs::Words::going_none))]
 pub fn emit(
     store: &mut [u64],
     w: usize,

@@ -1,4 +1,6 @@
 // The checks of judging, in their order; of the lent buffers they ask only how long they are.
+#![tactic(auto)]
+
 ghost use Rattle.std.specs.Prelude.{◌≡◌, true, ◌≤◌};
 ghost use Rattle.rules.specs.Each.{every};
 ghost use Rattle.rules.specs.Limits.{most_terms};
@@ -15,7 +17,7 @@ use rules::limits::{Limits, Made};
 use rules::records::RecordKind;
 
 // The lengths of the lent buffers.
-#[derive(Drop)]
+#[derive(Clone, Copy)]
 pub struct Lent {
     pub store: usize,
     pub scratch: usize,

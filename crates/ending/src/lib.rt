@@ -1,4 +1,6 @@
 // The answer by the last polynomial: equal, differs with the wrong operands, or unfinished.
+#![tactic(auto)]
+
 ghost use Rattle.std.specs.Prelude.{◌≡◌, false, cond, ◌+◌, ◌*◌, ◌/◌, ◌^◌, ◌<◌, ◌≤◌, ltb, length, drop};
 ghost use Rattle.rules.specs.Judging.{misfits, set_width, differs, ended};
 ghost use Rattle.rules.specs.Judging as rule;

@@ -11,6 +11,7 @@ use crate::streams::Gate;
 use words::sets::Order;
 
 // Of the heads j and b, the one with the larger set; b if they are equal. A set uses k of its w words.
+#[tactic(auto, using(crate::proofs::Flow::bounds))]
 fn better(
     store: &[u64],
     n: usize,
@@ -114,6 +115,7 @@ fn same(store: &[u64], i: usize, h: usize, masks: &[u64], a: usize, b: usize, w:
 }
 
 // The head of stream j, if its set is that at h under the mask at a: it is added to c, and the stream goes on.
+#[tactic(auto, using(crate::proofs::Flow::bounds))]
 fn take_head(
     store: &[u64],
     n: usize,

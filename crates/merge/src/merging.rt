@@ -12,6 +12,7 @@ use crate::streams::Gate;
 
 // Writes the term of c and the set at h under the mask at a as the o-th of scratch, unless c is 0: what cancelled is no term,
 // and needs no room. The number of terms then; limit + 1 without room.
+#[tactic(auto, using(weave::proofs::Growing::emit_skip, weave::proofs::Growing::emit_full, weave::proofs::Growing::emit_put))]
 fn emit(
     store: &[u64],
     h: usize,
@@ -37,6 +38,7 @@ fn emit(
 }
 
 // All streams, each at its first term, gathered into scratch, at most `limit` terms: how many; limit + 1 if there are more.
+#[tactic(auto, using(crate::proofs::Flow::bounds))]
 fn run(
     store: &[u64],
     n: usize,
@@ -72,6 +74,7 @@ fn run(
 
 // All streams of a gate gathered into scratch, at most `limit` terms: how many. With more the answer is limit + 1, and what was written is
 // cleared.
+#[tactic(auto, using(crate::proofs::Flow::streams_few))]
 pub fn merge(
     store: &[u64],
     n: usize,

@@ -5,7 +5,7 @@ ghost use Rattle.words.specs.Stored.{decoded};
 ghost use Rattle.merge.specs.Streams.{streams_of, held_in, multiplier_of, Next, Held};
 
 // A gate v over the variables x, y and z, the bits of a coefficient, and the words that a set uses. Where there is no z it is 0.
-#[derive(Drop)]
+#[derive(Clone, Copy)]
 pub struct Gate {
     pub v: usize,
     pub x: usize,
@@ -16,6 +16,7 @@ pub struct Gate {
 }
 
 // How many streams a gate has.
+#[tactic(auto, unfolding(crate::specs::Streams::streams_of))]
 pub fn streams_of(g: Gate) -> usize
     ensures { result ≡ streams_of g }
 {
@@ -26,6 +27,7 @@ pub fn streams_of(g: Gate) -> usize
 }
 
 // Which of x, y and z the set at word `at` has, as a subset. Most gates have no z: none is looked for then.
+#[tactic(auto, using(gates::proofs::Flipped::bit_lt))]
 fn held_in(store: &[u64], at: usize, w: usize, g: Gate) -> usize
     requires { (at + w ≤ length store.now) × (g.x < 64 * w) × (g.y < 64 * w) × (g.z < 64 * w) }
     ensures { result ≡ held_in g (num (words_at store.now at w)) }
@@ -40,6 +42,7 @@ fn held_in(store: &[u64], at: usize, w: usize, g: Gate) -> usize
 }
 
 // The multiplier in stream j of the set at word `at`.
+#[tactic(auto, using(crate::proofs::Flow::held_lt))]
 pub fn multiplier_of(
     store: &[u64],
     at: usize,

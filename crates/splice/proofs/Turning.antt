@@ -170,6 +170,14 @@ module _ (z : Sizes) (store scratch : List ℕ) {lent : ℕ} (first used to : �
       pub term_room : (to + r.above) * (z.w + 1) + (z.w + 1) ≤ length store
       term_room = stride_in (to + r.above) z.limit z.w (length store) (omega (arith, h.fits, above_in)) h.store_room
 
+      -- the stretch lies inside, where it stands and where it goes
+      pub above_room : (first * (z.w + 1) + r.above * (z.w + 1) ≤ length store) × (to * (z.w + 1) + r.above * (z.w + 1) ≤ length store)
+      above_room = (left_room r.above (omega (arith, above_in)), room_at r.above (omega (arith, above_in)))
+
+      -- what the turn counts is no more than the words that are there
+      pub turn_counts : (first + r.above + r.met ≤ length store) × (to + r.above + present r.c ≤ length store)
+      turn_counts = (omega (arith, above_in, h.first_in, left_count), omega (arith, above_in, to_count, present_most r.c))
+
       -- words up to the rest of the others
       next_words : (first + r.above + r.met) * (z.w + 1) ≡ first * (z.w + 1) + r.above * (z.w + 1) + r.met * (z.w + 1)
       next_words = add-mul (first + r.above) r.met (z.w + 1) ∙ ap (λ (k : ℕ). k + r.met * (z.w + 1)) (add-mul first r.above (z.w + 1))

@@ -56,6 +56,7 @@ fn splice(
 
 // Puts the new terms among the store's from the `end`-th on, in front of the store: how many terms it then holds. What is left over is
 // cleared, and the numbers go on from those terms of the store to what it then holds.
+#[tactic(auto, using(crate::proofs::Finishing::held_room, crate::proofs::Finishing::finished, crate::proofs::Finishing::finished_fewer))]
 pub fn splice_all(store: &mut [u64], z: Sizes, scratch: &[u64], numbers: &mut [u32]) -> usize
     requires { Splicing z store.old scratch.now (length numbers.old) z.end 0 0 × (drop (z.n * (z.w + 1)) store.old ≡ replicate (length store.old - z.n * (z.w + 1)) 0) }
     ensures { (result ≡ length (spliced z store.old scratch.now z.end 0)) × (result ≤ z.limit)

@@ -10,7 +10,7 @@ use weave::weaving::Sizes;
 use words::coefficients::sum;
 
 // Behind how many terms a new one goes; whether the one behind those has its set (1) or not (0); and the coefficient of both.
-#[derive(Drop)]
+#[derive(Clone, Copy)]
 pub struct Spot {
     pub above: usize,
     pub met: usize,
@@ -28,6 +28,7 @@ pub fn size(c: u64) -> usize
 }
 
 // Where the new term at word `from` of scratch goes among n terms.
+#[tactic(auto, using(crate::proofs::Placing::inside))]
 pub fn place(terms: &[u64], n: usize, z: Sizes, scratch: &[u64], from: usize) -> Spot
     requires { Spotting terms.now n z scratch.now from }
     ensures { Spotted (2 ^ z.l) (decoded z.w n terms.now) (get_or scratch.now from 0) (num (words_at scratch.now (from + 1) z.w)) result }

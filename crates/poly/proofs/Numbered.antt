@@ -5,7 +5,7 @@ use mathlib.Core.List.{List, [], ◌∷◌, ◌++◌}
 use Prim.Native.Nat.{ℕ, ◌+◌, ◌-◌, ◌*◌, ◌^◌, ◌<◌, ◌≤◌}
 use native.Mathlib.Omega.{arith}
 use lib.Dec.{ltb, eqb}
-use lib.ListN.{length, drop}
+use lib.ListN.{length, take, drop, replicate}
 use Rattle.rules.specs.Occurrences.{occurring}
 use Rattle.rules.specs.Polynomial.{Polynomial, Below, gather}
 use Rattle.rules.specs.Values.{bit}
@@ -23,8 +23,8 @@ use Rattle.tally.specs.Marks.{Numbered, Counting, Moved, Renumbered}
 use Rattle.tally.proofs.Marking.{numbered_front, counting_front, occurring_rest}
 use Rattle.tally.proofs.Moving.{moved_add, moved_same}
 use Rattle.tally.proofs.Numbering.{numbered_gather, numbered_append}
-use Rattle.poly.specs.Stepping.{Both, Numbering}
-use Rattle.poly.proofs.Settled.{left_in, counted, front_in, more}
+use Rattle.poly.specs.Stepping.{Both, Numbering, Together}
+use Rattle.poly.proofs.Settled.{left_in, counted, front_in, more, together_full}
 
 -- the terms that hold v, and those that do not
 pub numbered_parts : (lent v : ℕ) (p : Polynomial) → Numbered lent p → Numbered lent (holding v p) × Numbered lent (without v p)
@@ -100,10 +100,13 @@ module _ (z : Sizes) (r : Parts) (store scratch made : List ℕ) {lent : ℕ} (b
           stayed = λ l. absurd (omega (arith, counted z r both store scratch made store scratch b g t lm few));
         }
 
-    -- they do not: no number changes
-    pub numbers_full : (n : List ℕ) → z.limit < r.out + (z.n - r.at) → Renumbered z.limit (old_terms z store) both n n
-    numbers_full n h =
-        record {
-          moved = λ l. absurd (omega (arith, more z r both store scratch made store scratch b g t lm (ltb z.limit r.out) refl h));
-          stayed = λ l. refl;
-        }
+-- where both parts do not fit, the store and scratch are as they were, and so are the numbers, since there are more terms than the limit.
+-- The first part of the conclusion says nothing new: it shows `grind` which words are meant
+pub nothing_done : (z : Sizes) (r : Parts) (store scratch made : List ℕ) → Both z store scratch
+    → Joined z.limit (gather (2 ^ z.l) (without z.v (old_terms z store) ++ new_terms z scratch)) (old_terms z store) r (decoded z.w r.out made)
+    → Kept z.w z.limit r.out scratch made → length made ≡ length scratch → z.limit < r.out + (z.n - r.at)
+    → Joined z.limit (gather (2 ^ z.l) (without z.v (old_terms z store) ++ new_terms z scratch)) (old_terms z store) r (decoded z.w r.out made)
+    × Together z (gather (2 ^ z.l) (without z.v (old_terms z store) ++ new_terms z scratch)) store scratch (z.limit + 1) store (take 0 made ++ (replicate (z.limit * (z.w + 1) - 0) 0 ++ drop (z.limit * (z.w + 1)) made))
+    × (z.limit < length (gather (2 ^ z.l) (without z.v (old_terms z store) ++ new_terms z scratch)))
+nothing_done z r store scratch made b g t lm h =
+    (g, together_full z r _ store scratch made store _ b g t lm h refl refl, more z r _ store scratch made store scratch b g t lm (ltb z.limit r.out) refl h)

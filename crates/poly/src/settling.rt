@@ -32,6 +32,7 @@ const STRETCH: usize = 512;
 
 // Moves the first `end` words of scratch to the front of the store and leaves zeros there. A stretch is cleared while it is still
 // at hand.
+#[tactic(auto, using(crate::proofs::Settled::least_of))]
 fn hand_over(scratch: &mut [u64], store: &mut [u64], end: usize)
     requires { (end ≤ length scratch.old) × (end ≤ length store.old) }
     ensures { (store.new ≡ take end scratch.old ++ drop end store.old)
@@ -66,6 +67,7 @@ fn settle(store: &mut [u64], n: usize, w: usize, scratch: &mut [u64], at: usize,
 
 // Both lists gathered in the store by way of scratch: how many terms it then holds; limit + 1, and the store as it was, if there would
 // be more than `limit`. Scratch is as it was, and the numbers are those of what the store holds.
+#[tactic(auto, using(crate::proofs::Settled::scratch_front, crate::proofs::Numbered::nothing_done))]
 fn woven(store: &mut [u64], z: Sizes, scratch: &mut [u64], numbers: &mut [u32]) -> usize
     requires { Both z store.old scratch.old × Numbering z store.old scratch.old (length numbers.old) }
     ensures { Together z (gather (2 ^ z.l) (without z.v (old_terms z store.old) ++ new_terms z scratch.old)) store.old scratch.old result store.new scratch.new

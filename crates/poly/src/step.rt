@@ -15,6 +15,7 @@ use weave::weaving::Sizes;
 
 // What becomes of the terms that hold the gate's variable, where the row is what its record is brought apart to, gathered into scratch:
 // how many terms; limit + 1 if there are more than `limit`. The record is there for the contract alone.
+#[tactic(auto, using(merge::proofs::Flow::streams_few))]
 fn replacements(
     store: &[u64],
     n: usize,
@@ -86,7 +87,7 @@ fn replace(
 }
 
 // How many terms a store then holds, and how many the gate's record makes of one before like ones meet, or 0 where no term holds the gate.
-#[derive(Drop)]
+#[derive(Clone, Copy)]
 pub struct Outcome {
     pub held: usize,
     pub each: u32,

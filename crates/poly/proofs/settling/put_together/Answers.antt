@@ -1,0 +1,32 @@
+-- In place, or by way of scratch.
+use mathlib.Core.Path.{sym, ◌∙◌}
+use native.Mathlib.Omega.{arith}
+use Rattle.poly.proofs.Placed.{placed, first_low, to_splice, together_placed, to_count, numbers_placed}
+use Rattle.poly.proofs.settling.put_together.Goals as goal
+
+pub goes_in_place-requires : goal.goes_in_place-requires
+goes_in_place-requires c =
+    let a = c.args in
+    let p = c.requires.0 in
+    (p.task.room, omega (arith, p.some, p.task.end_in), p.task.end_in, p.task.narrow, p.task.v_in, first_low a.z a.store.now a.scratch.now p)
+
+pub mark_all-requires : goal.mark_all-requires
+mark_all-requires c =
+    let a = c.args in
+    let p = c.requires in
+    to_count a.z a.store.now a.scratch.now p.0 (placed a.z a.store.now (sym c.goes_in_place.ensures ∙ c.if-goes_in_place.true)) p.1
+
+pub splice_all-requires : goal.splice_all-requires
+splice_all-requires c =
+    let a = c.args in
+    let p = c.requires in
+    let q = placed a.z a.store.now (sym c.goes_in_place.ensures ∙ c.if-goes_in_place.true) in
+    (rw c.mark_all.ensures.long (to_splice a.z a.store.now a.scratch.now p.0 q p.1), p.0.behind)
+
+pub returns-then-goes_in_place : goal.returns-then-goes_in_place
+returns-then-goes_in_place c =
+    let a = c.args in
+    let p = c.requires in
+    let s = c.splice_all in
+    let q = placed a.z a.store.now (sym c.goes_in_place.ensures ∙ c.if-goes_in_place.true) in
+    (together_placed a.z a.store.now a.scratch.now p.0 q p.1 s.result s.new.store s.ensures.0 s.ensures.1 s.ensures.2, numbers_placed a.z a.store.now a.scratch.now p.0 q p.1 s.result a.numbers.now _ _ s.ensures.0 s.ensures.1 c.mark_all.ensures s.ensures.3)

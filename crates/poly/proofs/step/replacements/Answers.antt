@@ -1,0 +1,106 @@
+-- The tables are those of the gate, so its streams gather to what becomes of the terms that hold it.
+use mathlib.Core.Path.{◌≡◌, refl, sym, ◌∙◌}
+use mathlib.Core.Bool.{Bool, true, false, cond}
+use mathlib.Core.Logic.{inl, inr}
+use mathlib.Core.List.{List, ◌++◌}
+use Prim.Native.Nat.{ℕ, ◌*◌, ◌≤◌}
+use native.Mathlib.Nat.{mul-le-mul_right}
+use native.Mathlib.Omega.{arith}
+use lib.Dec.{eqb}
+use lib.IntN.{ℤ, pos}
+use lib.ListN.{length, take, drop, replicate, length-append, length-drop}
+use lib.Seq.{length-take-le}
+use Rattle.words.specs.Stored.{decoded}
+use Rattle.gates.specs.Rows.{row_of, Tabled, Rows}
+use Rattle.gates.proofs.Tables.{mask_none}
+use Rattle.merge.specs.Streams.{streams_of}
+use Rattle.merge.specs.declared.streams.Gate.{Gate}
+use Rattle.merge.proofs.Flow.{streams_few}
+use Rattle.poly.proofs.Tables.{filled, held, masks_short, lows, gathered, falls}
+use Rattle.poly.proofs.step.replacements.Goals as goal
+
+-- a row of eight multipliers is lent for each stream
+rows_of : (g : Gate) → Rows (streams_of g * 8)
+unfolding streams_of
+rows_of g = go (eqb g.z 0)
+  where
+    go : (b : Bool) → Rows (cond b 4 8 * 8)
+    go true = inl refl
+    go false = inr refl
+
+-- of 64 multipliers those of the s streams of a gate are lent
+module _ (s : ℕ) (g : Gate) (e : s ≡ streams_of g) where
+  few : s ≤ 8
+  few = rw e (streams_few g).1
+
+  lent : length (take {A = ℤ} (s * 8) (replicate 64 (pos 0))) ≡ s * 8
+  lent =
+      let l : s * 8 ≤ 64 = omega (arith, few) in
+      length-take-le (s * 8) (replicate 64 (pos 0)) l
+
+  -- and come back as `table`, in front of the others
+  module _ (table : List ℤ) (l : length table ≡ length (take {A = ℤ} (s * 8) (replicate 64 (pos 0)))) where
+    size : length (table ++ drop (s * 8) (replicate 64 (pos 0))) ≡ 64
+    size = simp (length-append, length-drop) (omega (arith, l, lent, few))
+
+    tabled : (row : List ℤ) → Tabled (row_of row) (length (take {A = ℤ} (s * 8) (replicate 64 (pos 0)))) table → Tabled (row_of row) (streams_of g * 8) (table ++ drop (s * 8) (replicate 64 (pos 0)))
+    tabled row t = rw (← e) (filled (row_of row) (s * 8) table (drop (s * 8) (replicate 64 (pos 0))) (l ∙ lent) (rw lent at t))
+
+pub slice_bounds-multiplier_table-end : goal.slice_bounds-multiplier_table-end
+slice_bounds-multiplier_table-end c =
+    let s = c.streams_of-streams in
+    sym (lent s.result c.args.g s.ensures)
+
+pub multiplier_table-requires : goal.multiplier_table-requires
+multiplier_table-requires c =
+    let p = c.requires.0 in
+    let s = c.streams_of-streams in
+    (p.eight, p.apart.within, rw (lent s.result c.args.g s.ensures, s.ensures) (rows_of _))
+
+pub mask_table-requires : goal.mask_table-requires
+mask_table-requires c =
+    let p = c.requires.0 in
+    let l = few c.streams_of-streams.result c.args.g c.streams_of-streams.ensures in (
+      l,
+      omega (arith, mul-le-mul_right c.args.w l, p.narrow),
+      p.narrow,
+      omega (arith, p.v_in, p.short),
+      omega (arith, p.x_low, p.v_in, p.short),
+      omega (arith, p.y_low, p.v_in, p.short),
+      omega (arith, p.z_low, p.v_in, p.short),
+      λ j d. mask_none c.args.w 128 j,
+    )
+
+pub merge-requires : goal.merge-requires
+merge-requires c =
+    let a = c.args in
+    let p = c.requires in
+    let s = c.streams_of-streams in
+    let t = c.multiplier_table in
+    let m = c.mask_table in
+    let table = t.new.table ++ drop (s.result * 8) (replicate 64 (pos 0)) in
+    let z = size s.result a.g s.ensures t.new.table t.auto.table in
+    let filled = tabled s.result a.g s.ensures t.new.table t.auto.table a.row.now t.ensures in
+    let masked = rw s.ensures at m.ensures.0 in (
+      held a.store.now a.n a.w a.g a.r a.row.now p.0 table m.new.masks z filled masked,
+      masks_short a.store.now a.n a.w a.g a.r a.row.now p.0 table m.new.masks z filled masked (omega (arith, mul-le-mul_right a.w (streams_few a.g).1, p.0.narrow, m.auto.masks)),
+      p.1,
+      lows a.store.now a.n a.w a.g a.r a.row.now p.0 table m.new.masks z filled masked,
+    )
+
+pub returns : goal.returns
+returns c =
+    let a = c.args in
+    let p = c.requires in
+    let s = c.streams_of-streams in
+    let t = c.multiplier_table in
+    let table = t.new.table ++ drop (s.result * 8) (replicate 64 (pos 0)) in
+    let z = size s.result a.g s.ensures t.new.table t.auto.table in
+    let filled = tabled s.result a.g s.ensures t.new.table t.auto.table a.row.now t.ensures in
+    let masked = rw s.ensures at c.mask_table.ensures.0 in
+    let m = c.merge in
+    let out = decoded a.w m.result m.new.scratch in (
+      gathered a.store.now a.n a.w a.g a.r a.row.now p.0 table c.mask_table.new.masks z filled masked a.limit m.result out m.ensures.0,
+      falls a.store.now a.n a.w a.g a.r a.row.now p.0 table c.mask_table.new.masks z filled masked a.limit m.result out m.ensures.0,
+      m.ensures.1,
+    )

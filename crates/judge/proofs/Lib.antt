@@ -6,5 +6,3 @@ pub mod Going
 pub mod Place
 pub mod Opened
 pub mod Judged
-pub mod Again
-pub mod LocalArray

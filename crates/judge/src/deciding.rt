@@ -54,7 +54,7 @@ fn begin(
 }
 
 // Whether a run begins, the number of the first refusal or 0, and the terms held at the start.
-#[derive(Drop)]
+#[derive(Clone, Copy)]
 pub struct Outset {
     pub begun: bool,
     pub number: u32,

@@ -1,4 +1,6 @@
 // The judge: what comes before the run, the run over an order, the log, and what comes after it.
+#![tactic(auto)]
+
 pub mod deciding; // deciding.rt: what comes before the run, and after it
 pub mod log; // log.rt: one record of the log
 pub mod run; // run.rt: the steps of an order, and the log

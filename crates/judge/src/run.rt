@@ -12,7 +12,7 @@ use rules::answers::StepRecord;
 use rules::counts::Counts;
 
 // Whether every polynomial had room, the steps completed, and the terms held after them.
-#[derive(Drop)]
+#[derive(Clone, Copy)]
 pub struct Ran {
     pub fits: bool,
     pub steps: usize,

@@ -11,7 +11,7 @@ use poly::step::step;
 use rules::counts::Counts;
 
 // Whether the polynomial after the step has room, the gate of the step, the terms then held, and the terms before gathering.
-#[derive(Drop)]
+#[derive(Clone, Copy)]
 pub struct Turn {
     pub fits: bool,
     pub gate: u32,

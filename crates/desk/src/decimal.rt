@@ -5,6 +5,7 @@ ghost use Rattle.rules.specs.Desk.{spaced};
 ghost use Rattle.desk.specs.Written.{Written};
 
 // Writes x from `at` on, its tens before its last digit, and answers where it ends.
+#[tactic(auto, using(crate::proofs::Numbers::written_digit, crate::proofs::Decimals::single_length, crate::proofs::Decimals::tens_length))]
 pub fn put_decimal(bytes: &mut [u8], at: usize, x: u64) -> usize
     requires { at + length (decimal x) ≤ length bytes.old }
     ensures { Written bytes.old at (decimal x) bytes.new result }

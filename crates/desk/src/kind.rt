@@ -4,6 +4,7 @@ ghost use Rattle.desk.specs.Kind.{kind_named};
 ghost use Rattle.rules.specs.Desk.{kind_line, kind_asked};
 
 // The number of the kind whose line has this one letter; 5 is no kind.
+#[tactic(auto, unfolding(crate::specs::Kind::kind_named))]
 fn kind_named(x: u8) -> u32
     ensures { result ≡ kind_named x }
 {

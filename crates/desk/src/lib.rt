@@ -1,4 +1,6 @@
 // The desk program's line: what it judges with, and how an answer is printed.
+#![tactic(auto)]
+
 pub mod decimal; // decimal.rt: numbers in decimal, written into lent bytes
 pub mod format; // format.rt: an answer as a line
 pub mod judging; // judging.rt: a netlist text, read and judged

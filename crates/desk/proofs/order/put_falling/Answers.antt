@@ -1,0 +1,29 @@
+use mathlib.Core.Path.{◌≡◌, refl}
+use native.Mathlib.Omega.{arith}
+use lib.ListN.{length-set}
+use Rattle.rules.specs.Desk.{falling}
+use Rattle.desk.proofs.Orders.{falling_none, falling_more}
+use Rattle.desk.proofs.order.put_falling.Goals as goal
+
+pub loop-k-init : goal.loop-k-init
+loop-k-init c =
+    let a = c.args in
+    (omega arith, omega arith, omega arith, omega arith, refl, falling_none a.order.now a.counts.m)
+
+pub loop-k-preserved : goal.loop-k-preserved
+loop-k-preserved c =
+    let a = c.args in
+    let l = c.loop-k in (
+      omega arith,
+      omega arith,
+      omega arith,
+      omega arith,
+      simp length-set l.invariant.4,
+      falling_more a.order.now l.order a.counts.m l.k l.gate (omega arith) l.invariant.3 l.invariant.5,
+    )
+
+pub returns : goal.returns
+unfolding falling
+returns c =
+    let e : c.loop-k.k ≡ c.args.counts.a = omega arith in
+    rw e at c.loop-k.invariant.5

@@ -6,6 +6,7 @@ use rules::counts::Counts;
 use rules::records::RecordKind;
 
 // The kind of record that a host names.
+#[tactic(auto, unfolding(crate::specs::Exported::records_named))]
 fn kind_of_record(cells: u32) -> RecordKind
     ensures { result ≡ records_named cells }
 {

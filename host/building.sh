@@ -5,18 +5,12 @@
 # folder of a libexports.a: what is named is not built, and nothing is proved for it.
 shopt -s globstar nullglob
 
-# Where each part stands. rt builds for x86-64 alone; .ci/elsewhere makes the library for another processor, and a script
-# that runs the desk program on the kit's emulator.
-made=$top/target/staticlib
-desk=$top/target/bin/desk_main
-if [ "$(uname -m)" != x86_64 ]; then
-    made=$top/target/elsewhere
-    desk=$made/desk_main
-fi
+# Where each part stands: rt leaves what it builds in the crate's out/.
+made=$top/crates/exports/out
 [ -z "${HRASKELL_LIB:-}" ] || made=$(readlink -m -- "$HRASKELL_LIB")
 library=$made/libexports.a
 program=${HRASKELL_PROGRAM:-$top/target/host/release/hraskell}
-desk=${HRASKELL_DESK:-$desk}
+desk=${HRASKELL_DESK:-$top/crates/desk_main/out/desk_main}
 stamps=$top/target/built
 
 kept=
@@ -100,39 +94,44 @@ build_part() { # PART
     say "built in $((SECONDS - began)) s"
 }
 
-# rt staticlib proves one crate after the other, rt check several at a time: so that goes first.
 build_library() {
     local crates
-    wants rt "rt of the Rattle kit"
-    say "building the library (rt staticlib exports): the first time proves all that it stands on, some minutes"
+    wants_rt
+    say "building the library (rt lib in crates/exports): the first time proves all that it stands on, some minutes"
     mapfile -t crates < <(crates_below exports)
-    run "${crates[*]}" rt check "${crates[@]:1}"
-    case $made in
-    */elsewhere) run "${crates[*]}" .ci/elsewhere ;;
-    *) run "${crates[*]}" rt staticlib exports ;;
-    esac
+    run crates/exports "${crates[*]}" rt lib
     [ -f "$library" ] || give_up "rt left no $library"
 }
 
+# rt run builds the program and runs it, here on no input.
 build_desk() {
     local crates
-    wants rt "rt of the Rattle kit"
-    say "building the desk program (rt check desk_main): the first time proves all that it stands on, some minutes"
+    wants_rt
+    say "building the desk program (rt run in crates/desk_main): the first time proves all that it stands on, some minutes"
     mapfile -t crates < <(crates_below desk_main)
-    run "${crates[*]}" rt check desk_main
+    run crates/desk_main "${crates[*]}" rt run
     [ -f "$desk" ] || give_up "rt left no $desk"
 }
 
 build_program() {
     wants cargo "cargo"
     say "building the program (cargo build)"
-    run '' env HRASKELL_LIB="$made" HRASKELL_BUILT_FROM="$(built_from)" CARGO_TARGET_DIR="$top/target/host" \
+    run . '' env HRASKELL_LIB="$made" HRASKELL_BUILT_FROM="$(built_from)" CARGO_TARGET_DIR="$top/target/host" \
         cargo build --release --offline --manifest-path host/Cargo.toml
     [ -f "$program" ] || give_up "cargo left no $program"
 }
 
 wants() { # COMMAND NAME
     command -v "$1" >/dev/null || give_up "something has to be built, and $2 is not on the PATH"
+}
+
+# The kit proves and builds on x86-64 alone, and what it builds is for that processor.
+wants_rt() {
+    local processor
+    processor=$(uname -m)
+    [ "$processor" = x86_64 ] ||
+        give_up "something has to be built, and the Rattle kit runs on x86-64 alone (this is $processor): HRASKELL_LIB, HRASKELL_PROGRAM and HRASKELL_DESK name parts that are built already"
+    wants rt "rt of the Rattle kit"
 }
 
 # What the program says of itself: the revision, where git tells it, and the kit.
@@ -146,57 +145,56 @@ built_from() {
     printf '%s' "$revision${revision:+${kit:+, }}$kit"
 }
 
-# The crate and all that it stands on in this repository, itself first.
+# The crate and all that it stands on in this repository, in the order in which rt takes them: each after those that it stands on.
 crates_below() { # CRATE
     awk -v wanted="$1" '
         function visit(crate, names, count, k) {
             if (!(crate in below) || seen[crate]++) return
-            print crate
             count = split(below[crate], names)
             for (k = 1; k <= count; k++) visit(names[k])
+            print crate
         }
-        /^[^#]/ { crate = $1; sub(/:$/, "", crate); $1 = ""; below[crate] = $0 }
+        /^[^#]/ { heads = $0; sub(/:.*/, "", heads); split(heads, words); sub(/^[^:]*:/, ""); below[words[1]] = $0 }
         END { visit(wanted) }' "$top/crates.txt"
 }
 
-# Runs a command of a build in the repository, with its output kept, and shown if it fails.
-run() { # PROVED COMMAND..: the crates that it proves, in one word; `began` is when the part was begun
-    local proved=$1 status
-    shift
+# Runs a command of a build in a folder of the repository, with its output kept, and shown if it fails.
+run() { # FOLDER PROVED COMMAND..: the crates that it proves, in one word; `began` is when the part was begun
+    local folder=$1 proved=$2 status
+    shift 2
     # The ticker must not take the trap along: killed at once, it would run it and clear away what is still needed.
     trap - EXIT
     # shellcheck disable=SC2086 # the crates are several words
     tick "$began" $proved &
     ticker=$!
     trap clear_away EXIT
-    (cd "$top" && "$@") >>"$kept/output" 2>&1
+    (cd "$top/$folder" && "$@") >>"$kept/output" 2>&1 </dev/null
     status=$?
     kill "$ticker" && wait "$ticker" 2>/dev/null
     ticker=
     [ "$status" -eq 0 ] && return
-    tail -n 15 "$kept/output" >&2
-    give_up "could not be built: '${*##*/}' ended with status $status; the end of what it said is above"
+    # rt counts modules, a line for each library, also behind what it refuses.
+    awk '!/^(statements|library|logic) /' "$kept/output" | tail -n 15 >&2
+    [ "$folder" = . ] && folder='' || folder=" in $folder"
+    give_up "could not be built: '${*##*/}'$folder ended with status $status; the end of what it said is above"
 }
 
 # Shows every five seconds how far a build is.
 tick() { # BEGAN CRATE..
-    local began=$1 far=
+    local began=$1 far
     shift
     while sleep 5 >/dev/null 2>&1; do
-        [ $# -eq 0 ] || far=": $(how_far "$@")"
-        say "building, $((SECONDS - began)) s so far$far"
+        far=$(how_far "$@")
+        say "building, $((SECONDS - began)) s so far${far:+: $far}"
     done
 }
 
-# rt prints a line for each crate that is proved. While it is at one, target/log/CRATE.res has the word failed; it is not
-# written for the last one, whose proof is made anew as it is built.
-how_far() { # CRATE..: the last one first
-    local crate result now='' proved
-    proved=$(awk '/^rt: [^ ]+ proved/ && !seen[$2]++ { count++ } END { print count + 0 }' "$kept/output")
-    for crate; do
-        result=$top/target/log/$crate.res
-        [ "$result" -nt "$kept/stamp" ] && [ "$(<"$result")" = failed ] && now+=" $crate"
-    done
-    [ -n "$now" ] || [ "$proved" -lt $(($# - 1)) ] || now=" $1"
-    printf '%s of %s crates proved%s' "$proved" $# "${now:+, now at$now}"
+# rt takes one crate after the other. It begins each that is to be proved with a line that names it, and ends it with its verdict;
+# of one that it finds proved already it says nothing. Before the first line nothing is known.
+how_far() { # CRATE..: in rt's order
+    awk -v crates="$*" '
+        BEGIN { count = split(crates, names); for (k = 1; k <= count; k++) place[names[k]] = k }
+        /^rt: chose --jobs [0-9]+ for / && $NF in place { now = $NF; proved = place[now] - 1 }
+        /^logic=proved/ && now != "" { proved = place[now]; now = "" }
+        END { if (proved || now != "") printf "%d of %d crates proved%s", proved, count, now == "" ? "" : ", now at " now }' "$kept/output"
 }

@@ -4,7 +4,7 @@ use std::env;
 use std::path::{Path, PathBuf};
 
 /// The folder of the archive, seen from this package, where HRASKELL_LIB does not name another.
-const BUILT_HERE: &str = "../../target/staticlib";
+const BUILT_HERE: &str = "../../crates/exports/out";
 
 fn main() {
     println!("cargo::rerun-if-env-changed=HRASKELL_LIB");
@@ -19,7 +19,7 @@ fn main() {
         let path = archive.display();
         println!("cargo::error=there is no static library to link: {path} is missing");
         println!(
-            "cargo::error=build it with `rt staticlib exports`, or name its folder in HRASKELL_LIB"
+            "cargo::error=build it with `rt lib` in crates/exports, or name its folder in HRASKELL_LIB"
         );
         return;
     }

@@ -42,12 +42,15 @@ pub fn program() -> Result<PathBuf, String> {
     }
     let own = env::current_exe().unwrap_or_default();
     let folder = own.parent().unwrap_or(Path::new(""));
-    // Cargo leaves this program in target/host/release.
-    let places = [
-        folder.join("hraskell-desk"),
-        folder.join("../../bin/desk_main"),
-    ];
+    let beside = folder.join("hraskell-desk");
+    let places = [beside].into_iter().chain(built_beside(folder));
     places.into_iter().find(|place| can_be_run(place)).ok_or("there is no desk program: ./judge --desk of the repository builds it, or HRASKELL_DESK names it".into())
+}
+
+/// The desk program of the repository, where this program stands in the folder in which ./judge has it built.
+fn built_beside(folder: &Path) -> Option<PathBuf> {
+    let is_built_here = folder.ends_with("target/host/release");
+    is_built_here.then(|| folder.join("../../../crates/desk_main/out/desk_main"))
 }
 
 fn can_be_run(path: &Path) -> bool {

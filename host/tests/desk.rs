@@ -162,6 +162,25 @@ fn a_desk_that_cannot_be_run_is_told_of() {
 }
 
 #[test]
+fn the_desk_of_the_repository_is_asked_by_the_program_built_in_it() {
+    let home = Outside::new("desk-built");
+    let places = ["target/host/release", "crates/desk_main/out"].map(|place| home.join(place));
+    for place in &places {
+        std::fs::create_dir_all(place).unwrap();
+    }
+    let built = places[0].join("hraskell");
+    let held = starts();
+    std::fs::copy(env!("CARGO_BIN_EXE_hraskell"), &built).unwrap();
+    drop(held);
+    script(places[1].join("desk_main"), "echo E 6 0");
+    let mut command = std::process::Command::new(built);
+    let command = command
+        .args(["--desk", "u", "-"])
+        .env_remove("HRASKELL_DESK");
+    called(command, AND.as_bytes()).has("E 6 0\n", 0);
+}
+
+#[test]
 fn the_desk_beside_the_program_is_asked() {
     let home = folder("desk-beside");
     let beside = home.join("hraskell");

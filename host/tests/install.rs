@@ -8,7 +8,7 @@ use std::process::Command;
 
 /// The folder of the archive that this program was linked with: as host/library/build.rs finds it.
 fn library() -> PathBuf {
-    let named = std::env::var_os("HRASKELL_LIB").unwrap_or("../../target/staticlib".into());
+    let named = std::env::var_os("HRASKELL_LIB").unwrap_or("../../crates/exports/out".into());
     Path::new(env!("CARGO_MANIFEST_DIR"))
         .join("library")
         .join(named)

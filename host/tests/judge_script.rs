@@ -5,7 +5,7 @@
 mod calls;
 
 use calls::*;
-use std::path::{Path, PathBuf};
+use std::path::Path;
 use std::process::Command;
 
 /// Calls the script of the repository with this program to hand over to.
@@ -55,21 +55,20 @@ fn the_program_may_be_named_from_any_folder() {
     called(command, b"").has(&format!("{}\n", home.display()), 0);
 }
 
-/// A repository of its own, whose `rt`, `cargo` and `.ci/elsewhere` make empty parts and note their calls. Its source does not
-/// have the name of one in Rattle: the real rt looks for those in the whole tree.
-fn repository(name: &str) -> PathBuf {
-    let home = folder(name);
+/// A repository of its own, whose `rt` and `cargo` make empty parts and note their calls.
+fn repository(name: &str) -> Outside {
+    let home = Outside::new(name);
     for path in [
         "crates/exports/src",
         "crates/desk/src",
+        "crates/desk_main/src",
         "bin",
         "host/src",
         "host/library/src",
-        ".ci",
     ] {
         std::fs::create_dir_all(home.join(path)).unwrap();
     }
-    let crates = "# a comment\nrules:\njudge: rules\nexports: rules judge\ndesk: rules judge\ndesk_main: desk io libc\n";
+    let crates = "# a comment\nrules:\njudge: rules\nexports staticlib: rules judge\ndesk: rules judge\ndesk_main: desk io\n";
     for (path, content) in [
         ("crates.txt", crates),
         ("crates/exports/src/a_source", ""),
@@ -81,7 +80,7 @@ fn repository(name: &str) -> PathBuf {
         std::fs::write(home.join(path), content).unwrap();
     }
     let held = starts();
-    for copied in ["judge", "host/building.sh"] {
+    for copied in ["judge", "install", "host/building.sh"] {
         std::fs::copy(top().join(copied), home.join(copied)).unwrap();
     }
     drop(held);
@@ -90,19 +89,25 @@ fn repository(name: &str) -> PathBuf {
     home
 }
 
-/// What stands in for rt, cargo and .ci/elsewhere. Slow, rt is in the middle of judge for seven seconds.
+/// What stands in for rt and cargo, and for uname. rt reads its input to the end, as a program may that it runs. Slow, it is in the
+/// middle of judge for seven seconds.
 fn make_stand_ins(home: &Path) {
-    let rt = "case $1 in version) echo a kit; exit ;; esac\n\
-         echo \"rt $*\" >>calls; mkdir -p target/bin target/log target/staticlib; echo 'rt: rules proved (1 s)'\n\
-         [ ! -f slow ] || { sleep 0.2; echo failed >target/log/judge.res; sleep 7; rm -f slow; }\n\
-         [ ! -f broken ] || { echo 'rt: judge NOT PROVED'; exit 1; }\n\
+    let rt = format!(
+        "top='{}'\n\
+         case $1 in version) echo a kit; exit ;; esac\n\
+         echo \"rt $* in ${{PWD#$top/}}\" >>$top/calls; cat >/dev/null\n\
+         mkdir -p out; echo 'rt: chose --jobs 2 for rules'; echo 'logic=proved functions=1'; echo 'rt: chose --jobs 2 for judge'\n\
+         [ ! -f $top/slow ] || {{ sleep 7; rm -f $top/slow; }}\n\
+         [ ! -f $top/broken ] || {{ echo 'logic=not-proved'; echo 'rt: the library judge did not build'; exit 1; }}\n\
+         echo 'logic=proved functions=1'\n\
          case $* in\n\
-         'staticlib exports') echo >target/staticlib/libexports.a ;;\n\
-         'check desk_main') printf '#!/bin/sh\\n' >target/bin/desk_main; chmod +x target/bin/desk_main ;;\n\
-         esac";
-    script(home.join("bin/rt"), rt);
-    let elsewhere = "echo elsewhere >>calls; mkdir -p target/elsewhere; cd target/elsewhere; echo >libexports.a; echo >desk_main";
-    script(home.join(".ci/elsewhere"), elsewhere);
+         lib) echo >out/libexports.a ;;\n\
+         run) printf '#!/bin/sh\\n' >out/desk_main; chmod +x out/desk_main ;;\n\
+         esac",
+        home.display()
+    );
+    script(home.join("bin/rt"), &rt);
+    script(home.join("bin/uname"), "echo x86_64");
     let cargo = "echo \"cargo $*\" >>calls; [ -f \"$HRASKELL_LIB/libexports.a\" ] || exit 9\n\
          mkdir -p \"$CARGO_TARGET_DIR/release\"; cp made \"$CARGO_TARGET_DIR/release/hraskell\"";
     script(home.join("bin/cargo"), cargo);
@@ -114,7 +119,7 @@ fn make_stand_ins(home: &Path) {
 
 /// The shell, awk and what the script uses of coreutils: a machine may have no other tool.
 fn link_tools(bin: &Path) {
-    let tools = "bash sh awk cat chmod cp dirname env mkdir mktemp readlink rm sleep tail uname";
+    let tools = "bash sh awk cat chmod cp dirname env mkdir mktemp readlink rm sleep tail";
     let path = std::env::var_os("PATH").unwrap();
     for tool in tools.split(' ') {
         let found = std::env::split_paths(&path).map(|folder| folder.join(tool));
@@ -123,14 +128,19 @@ fn link_tools(bin: &Path) {
     }
 }
 
-/// Calls the script with `bin` alone on the PATH.
-fn first_use(home: &Path, words: &[&str]) -> Said {
-    let mut command = Command::new(home.join("judge"));
-    let command = command.args(words).env("PATH", home.join("bin"));
+/// A call of one of the scripts with `bin` alone on the PATH, and no part named.
+fn in_repository(home: &Path, name: &str) -> Command {
+    let mut command = Command::new(home.join(name));
+    command.env("PATH", home.join("bin"));
     for variable in ["HRASKELL_DESK", "HRASKELL_LIB", "HRASKELL_PROGRAM"] {
         command.env_remove(variable);
     }
-    called(command, b"")
+    command
+}
+
+/// Calls the script `judge`.
+fn first_use(home: &Path, words: &[&str]) -> Said {
+    called(in_repository(home, "judge").args(words), b"")
 }
 
 /// The calls noted since the last time.
@@ -140,15 +150,8 @@ fn calls_of(home: &Path) -> Vec<String> {
     calls.lines().map(String::from).collect()
 }
 
-/// The call that makes the library on this processor.
-fn library_call() -> &'static str {
-    if cfg!(target_arch = "x86_64") {
-        "rt staticlib exports"
-    } else {
-        "elsewhere"
-    }
-}
-
+const LIBRARY: &str = "rt lib in crates/exports";
+const DESK: &str = "rt run in crates/desk_main";
 const CARGO: &str = "cargo build --release --offline --manifest-path host/Cargo.toml";
 const HANDED: &str = "handed over u -\ndesk none\n";
 
@@ -159,15 +162,12 @@ fn it_builds_on_first_use_and_when_a_source_is_newer() {
     let words = ["u", "-"];
     let said = first_use(&home, &words);
     said.has(HANDED, 2)
-        .tells("judge: building the library (rt staticlib exports)")
+        .tells("judge: building the library (rt lib in crates/exports)")
         .tells(" s so far: 1 of 3 crates proved, now at judge\n")
         .tells("judge: building the program (cargo build)")
         .tells("built in ");
     assert!(said.told.lines().all(|line| line.starts_with("judge: ")));
-    assert_eq!(
-        calls_of(&home),
-        ["rt check rules judge", library_call(), CARGO]
-    );
+    assert_eq!(calls_of(&home), [LIBRARY, CARGO]);
     first_use(&home, &words).has(HANDED, 2).tells_nothing();
     assert!(calls_of(&home).is_empty());
     touch(&home.join("host/src/main.rs"));
@@ -180,10 +180,7 @@ fn it_builds_on_first_use_and_when_a_source_is_newer() {
         first_use(&home, &words)
             .has(HANDED, 2)
             .tells("building the library");
-        assert_eq!(
-            calls_of(&home),
-            ["rt check rules judge", library_call(), CARGO]
-        );
+        assert_eq!(calls_of(&home), [LIBRARY, CARGO]);
     }
 }
 
@@ -192,7 +189,7 @@ fn touch(source: &Path) {
     std::thread::sleep(std::time::Duration::from_millis(20));
     std::fs::write(
         source,
-        "# newer\nrules:\njudge: rules\nexports: rules judge\ndesk_main:\n",
+        "# newer\nrules:\njudge: rules\nexports staticlib: rules judge\ndesk_main:\n",
     )
     .unwrap();
 }
@@ -200,35 +197,21 @@ fn touch(source: &Path) {
 #[test]
 fn it_builds_the_desk_program_where_that_is_asked() {
     let home = repository("builds-desk");
-    let desk = if cfg!(target_arch = "x86_64") {
-        "bin"
-    } else {
-        "elsewhere"
-    };
     let handed = format!(
-        "handed over --desk u -\ndesk {}/target/{desk}/desk_main\n",
+        "handed over --desk u -\ndesk {}/crates/desk_main/out/desk_main\n",
         home.display()
     );
     let said = first_use(&home, &["--desk", "u", "-"]);
     said.has(&handed, 2)
-        .tells("judge: building the desk program (rt check desk_main)");
-    let calls = [
-        "rt check rules judge",
-        library_call(),
-        CARGO,
-        "rt check desk_main",
-    ];
-    assert_eq!(calls_of(&home), calls);
+        .tells("judge: building the desk program (rt run in crates/desk_main)");
+    assert_eq!(calls_of(&home), [LIBRARY, CARGO, DESK]);
     first_use(&home, &["--desk", "u", "-"])
         .has(&handed, 2)
         .tells_nothing();
     // Behind -- it is the name of a file.
     let home = repository("builds-no-desk");
     first_use(&home, &["u", "--", "--desk"]).has("handed over u -- --desk\ndesk none\n", 2);
-    assert_eq!(
-        calls_of(&home),
-        ["rt check rules judge", library_call(), CARGO]
-    );
+    assert_eq!(calls_of(&home), [LIBRARY, CARGO]);
 }
 
 #[test]
@@ -237,8 +220,10 @@ fn it_judges_nothing_when_the_build_fails() {
     std::fs::write(home.join("broken"), "").unwrap();
     let words = ["u", "-"];
     let broken = first_use(&home, &words);
-    broken.has("", 4).tells("rt: judge NOT PROVED");
-    broken.tells("judge: could not be built: 'rt check rules judge' ended with status 1");
+    broken
+        .has("", 4)
+        .tells("rt: the library judge did not build");
+    broken.tells("judge: could not be built: 'rt lib' in crates/exports ended with status 1");
     std::fs::remove_file(home.join("broken")).unwrap();
     script(
         home.join("bin/cargo"),
@@ -254,6 +239,7 @@ fn it_judges_nothing_when_the_build_fails() {
         .has("", 4)
         .tells("cargo is not on the PATH");
     std::fs::remove_file(home.join("bin/rt")).unwrap();
+    std::fs::remove_file(home.join("crates/exports/out/libexports.a")).unwrap();
     std::fs::remove_dir_all(home.join("target")).unwrap();
     first_use(&home, &words)
         .has("", 4)
@@ -268,10 +254,33 @@ fn a_library_that_is_named_is_not_proved() {
     std::fs::remove_file(home.join("bin/rt")).unwrap();
     let mut command = Command::new(home.join("judge"));
     let command = command.args(["u", "-"]).env("PATH", home.join("bin"));
-    let command = command.env("HRASKELL_LIB", "elsewhere").current_dir(&home);
+    let command = command.env("HRASKELL_LIB", "elsewhere").current_dir(&*home);
     let command = command
         .env_remove("HRASKELL_DESK")
         .env_remove("HRASKELL_PROGRAM");
     called(command, b"").has(HANDED, 2);
     assert_eq!(calls_of(&home), [CARGO]);
+}
+
+#[test]
+fn another_processor_is_told_of_where_rt_has_to_build() {
+    let home = repository("another-processor");
+    script(home.join("bin/uname"), "echo riscv64");
+    let told = "the Rattle kit runs on x86-64 alone (this is riscv64)";
+    first_use(&home, &["u", "-"]).has("", 4).tells(told);
+    assert!(calls_of(&home).is_empty());
+    let mut command = in_repository(&home, "install");
+    called(command.arg(home.join("prefix")), b"")
+        .has("", 4)
+        .tells(told);
+    assert!(!home.join("prefix").exists());
+}
+
+#[test]
+fn a_build_leaves_the_input_to_the_program() {
+    let home = repository("builds-with-input");
+    script(home.join("made"), "cat");
+    let mut command = in_repository(&home, "judge");
+    called(command.args(["--desk", "u", "-"]), b"input\n").has("input\n", 0);
+    assert_eq!(calls_of(&home), [LIBRARY, CARGO, DESK]);
 }

@@ -323,7 +323,7 @@ fn what_is_kept_is_written_beside_nothing_else() {
 #[test]
 fn a_link_and_its_file_keep_their_places_and_permissions() {
     use std::os::unix::fs::{symlink, PermissionsExt};
-    let home = folder("links");
+    let home = Outside::new("links");
     let block = file(&home, "block.aag", AND);
     let real = file(&home, "real", "before");
     std::fs::set_permissions(&real, PermissionsExt::from_mode(0o600)).unwrap();

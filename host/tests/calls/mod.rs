@@ -114,6 +114,34 @@ pub fn folder(name: &str) -> PathBuf {
     path
 }
 
+/// A folder for one test outside the repository, empty, and gone with this value. rt wants no link in the whole tree, and no second
+/// crates.txt.
+pub struct Outside(PathBuf);
+
+impl Outside {
+    pub fn new(name: &str) -> Outside {
+        let name = format!("hraskell-{name}-{}", std::process::id());
+        let path = std::env::temp_dir().canonicalize().unwrap().join(name);
+        let _ = std::fs::remove_dir_all(&path);
+        std::fs::create_dir_all(&path).unwrap();
+        Outside(path)
+    }
+}
+
+impl std::ops::Deref for Outside {
+    type Target = Path;
+
+    fn deref(&self) -> &Path {
+        &self.0
+    }
+}
+
+impl Drop for Outside {
+    fn drop(&mut self) {
+        let _ = std::fs::remove_dir_all(&self.0);
+    }
+}
+
 /// The names in a folder, sorted.
 pub fn names_in(folder: &Path) -> Vec<String> {
     let entries = std::fs::read_dir(folder).unwrap();

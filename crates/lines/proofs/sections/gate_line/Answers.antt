@@ -5,7 +5,7 @@ use mathlib.Core.List.{[], ◌∷◌}
 use Prim.Native.Nat.{◌*◌}
 use lib.Dec.{eqb}
 use lib.ListN.{drop}
-use borrow.Author.Tests.{eq-eqb, ne_eqb, le-ltb}
+use borrow.Author.Tests.{ne_eqb}
 use Rattle.rules.specs.Reading.{found, missing, gate_line, tested, fields, and_then, with_numbers}
 use Rattle.rules.specs.Netlist.{gate, gate_sound}
 use Rattle.lines.specs.Found.{value_scan}
@@ -46,15 +46,3 @@ returns-then-literal-wanted c =
     (scanned (value_scan t) c.field-2.ensures c.in-Read-field.is)
     (scanned (value_scan t) c.field-3.ensures c.in-Read-field-2.is) in
     rw (read, ne_eqb _ _ c.if-literal-wanted.true)
-
-pub returns-then-lhs-rhs0 : goal.returns-then-lhs-rhs0
-unfolding gate_scan gate gate_sound value_scan
-returns-then-lhs-rhs0 c =
-    let read : let a = c.args in let x = c.in-Read-field.rhs0 in gate_line a.c a.k (drop a.at a.text.now) ≡ cond (eqb c.in-Read.lhs (2 * gate a.c a.k) && gate_sound (gate a.c a.k) x c.in-Read-field-2.rhs1) (found (x ∷ c.in-Read-field-2.rhs1 ∷ []) (drop c.in-Read-field-2.end a.text.now)) missing =
-    let a = c.args in
-    let t = c.args.text.now in
-    gate_tested a.c a.k (drop a.at t)
-    (scanned (value_scan t) c.field.ensures c.in-Read.is)
-    (scanned (value_scan t) c.field-2.ensures c.in-Read-field.is)
-    (scanned (value_scan t) c.field-3.ensures c.in-Read-field-2.is) in
-    rw (read, eq-eqb _ _ c.if-literal-wanted.false, ← c.if-literal-wanted.false, le-ltb _ _ c.if-lhs-rhs0.true)

@@ -8,7 +8,9 @@ use native.Mathlib.Omega.{arith}
 use lib.ListN.{length, get_or, drop, length-append, get_or-append}
 use lib.Seq.{drop_at}
 use Rattle.rules.specs.Each.{sum, every}
-use Rattle.rules.specs.Says.{answers, says}
+use Rattle.std.specs.Prelude.{Result, Ok}
+use Rattle.rules.specs.declared.refusals.Refusal.{Refusal}
+use Rattle.rules.specs.Says.{answers, answer_says, says}
 use Rattle.rules.specs.Values.{bit}
 use Rattle.rules.specs.Occurrences.{counts_at, occurring, occurrences, with_occurrences}
 use Rattle.rules.specs.Polynomial.{Polynomial}
@@ -110,7 +112,7 @@ occurrences_exact x r answered passed =
     let exit : answered.occurrences ≡ with_occurrences x.counts p x.occurrences = answered.judged.occurrence_words ∙ rw passed refl in
     (rw exit (entries x.counts p x.occurrences), rw exit (behind x.counts p x.occurrences))
 
-module _ (x : Inputs) (r : Answer) (answered : Answered x r) (k : ℕ) (numbers : List ℕ) (said : answers k numbers ≡ judging x) (other : k ≡ 2 → ⊥) where
+module _ (x : Inputs) (r : Result Answer Refusal) (answered : Answered x r) (k : ℕ) (numbers : List ℕ) (said : answers k numbers ≡ judging x) (other : k ≡ 2 → ⊥) where
   -- after an answer that is not R they are those of the last polynomial
   last_entries : Entries x.counts (last x) answered.occurrences
   unfolding polynomials
@@ -125,9 +127,9 @@ module _ (x : Inputs) (r : Answer) (answered : Answered x r) (k : ℕ) (numbers 
 
 -- "unfinished": some gate's entry is not 0
 pub unfinished_entry : UnfinishedEntry
-unfolding says
+unfolding answer_says
 unfinished_entry x steps terms answered =
-    let r = Unfinished steps terms in
+    let r = Ok (Unfinished steps terms) in
     let gate = ((unfinished_exact x r answered).0 (steps, terms, refl)).1 in
     let own = last_entries x r answered 3 (steps ∷ terms ∷ []) answered.judged.said (λ e. omega arith) in
     let some : get_or answered.occurrences gate.0 0 ≡ 0 → ⊥ =
@@ -136,7 +138,7 @@ unfinished_entry x steps terms answered =
 
 -- "equal" and "differs": every gate's entry is 0
 pub finished_entries : FinishedEntries
-unfolding says inputs_only every
+unfolding answer_says inputs_only every
 finished_entries x r answered (inl (steps, terms, e)) v above below =
     let said : answers 0 (steps ∷ terms ∷ []) ≡ judging x = ap says (sym e) ∙ answered.judged.said in
     gates_gone x r answered 0 _ said (λ z. omega arith) (rw (answer_means x 0 _ said).1 refl) v above below

@@ -11,6 +11,7 @@ use Rattle.rules.specs.Netlist.{gate}
 use Rattle.rules.specs.Product.{kind_of}
 use Rattle.rules.specs.Polynomial.{Term, Polynomial}
 use Rattle.rules.specs.Steps.{modulus, start, trail, run, after, times_named, honest}
+use Rattle.std.specs.Prelude.{Ok}
 use Rattle.rules.specs.declared.answers.Answer.TheVariants.{Unfinished}
 use Rattle.rules.specs.declared.counts.Counts.{Counts}
 use Rattle.rules.proofs.All.{all_at}
@@ -47,7 +48,7 @@ gate_absent m c table order p h k l =
 pub honest_finishes : HonestFinishes
 unfolding after run gate
 honest_finishes x steps terms h answered =
-    let due = (unfinished_exact x (Unfinished steps terms) answered).0 (steps, terms, refl) in
+    let due = (unfinished_exact x (Ok (Unfinished steps terms)) answered).0 (steps, terms, refl) in
     let c = x.counts in
     let v = due.1.0 in
     let above : c.i < v = due.1.1 in

@@ -10,7 +10,7 @@ use lib.Dec.{ltb}
 use lib.ListN.{length}
 use lib.Pow.{pow_pos}
 use Rattle.rules.specs.Each.{every}
-use Rattle.rules.specs.Says.{says}
+use Rattle.rules.specs.Says.{answer_says}
 use Rattle.rules.specs.Product.{Kind, kind_of, operand_width, outputs_of, wanted_word}
 use Rattle.rules.specs.Polynomial.{Term, Polynomial, coefficient_at}
 use Rattle.rules.specs.Steps.{modulus, after}
@@ -147,7 +147,7 @@ module _ (x : Inputs) (ok : Passed x) where
 
 -- "equal" only if the outputs are the wanted word for all operands
 pub equal_right : EqualRight
-unfolding says value
+unfolding answer_says value
 equal_right x steps terms answered a b c o =
     let means = answer_means x 0 (steps ∷ terms ∷ []) answered.judged.said in
     words_equal x (passed x means.0) a b c o (rw means.1)
@@ -169,7 +169,7 @@ differing_least x ok a b c g w d =
 
 -- "differs" names, of all operands that go wrong, those with the fewest 1 bits and of these the smallest
 pub differs_right : DiffersRight
-unfolding says
+unfolding answer_says
 differs_right x steps terms a b c g w answered =
     let means = answer_means x 1 (steps ∷ terms ∷ a ∷ b ∷ c ∷ g ∷ w ∷ []) answered.judged.said in
     differing_least x (passed x means.0) a b c g w means.1

@@ -4,7 +4,8 @@ use mathlib.Core.List.{List, [], ◌∷◌}
 use Prim.Native.Nat.{ℕ, ◌<◌, ◌≤◌}
 use native.Mathlib.Omega.{arith}
 use lib.ListN.{length, get_or}
-use Rattle.rules.specs.Says.{answers, says}
+use Rattle.std.specs.Prelude.{Ok}
+use Rattle.rules.specs.Says.{answers, answer_says, says}
 use Rattle.rules.specs.Product.{kind_of}
 use Rattle.rules.specs.Steps.{after}
 use Rattle.rules.specs.Judging.{Inputs, refusal, judging}
@@ -74,16 +75,16 @@ module _ (x : Inputs) where
 
 -- "out of room" exactly when a polynomial has no room, with the first such and the terms held
 pub room_exact : RoomExact
-unfolding after says
+unfolding after answer_says
 room_exact x r answered k terms = (
   (λ e. room_due x k terms (ap says (sym e) ∙ answered.judged.said)),
-  (λ due. answer_known r (OutOfRoom k terms) (answered.judged.said ∙ due_room x k terms due)),
+  (λ due. answer_known r (Ok (OutOfRoom k terms)) (answered.judged.said ∙ due_room x k terms due)),
 )
 
 -- "unfinished" exactly when all have room and a gate occurs in the last one
 pub unfinished_exact : UnfinishedExact
-unfolding says
+unfolding answer_says
 unfinished_exact x r answered = (
   (λ found. unfinished_due x (found.0 ∷ found.1 ∷ []) (ap says (sym found.2) ∙ answered.judged.said)),
-  (λ due. (length x.order, length (last x), answer_known r (Unfinished _ _) (answered.judged.said ∙ due_unfinished x due.0 due.1))),
+  (λ due. (length x.order, length (last x), answer_known r (Ok (Unfinished _ _)) (answered.judged.said ∙ due_unfinished x due.0 due.1))),
 )

@@ -4,7 +4,7 @@ use mathlib.Core.List.{List, [], ◌∷◌}
 use Prim.Native.Nat.{ℕ}
 use native.Mathlib.Omega.{arith}
 use lib.ListN.{get_or}
-use Rattle.rules.specs.Says.{answers, says}
+use Rattle.rules.specs.Says.{answers, answer_says}
 use Rattle.rules.specs.Bench.{right}
 use Rattle.rules.specs.Judging.{judging, store_after, log_after, occurrences_after}
 use Rattle.demands.specs.StandIns.{handed, and_block, p1, p3, p6, p10, first_terms, first_made, NotRefuseEverything, NotAlwaysEqual, NotTouchNothing, NotReduceAtOnce, NotCountAfterGathering, NotCountAtTheStart, NotInventTheOccurrences, NotInventTheCount}
@@ -47,14 +47,14 @@ p6_counts = refl
 
 -- refusing everything is shut out
 pub not_refuse_everything : NotRefuseEverything
-unfolding says
-not_refuse_everything number store scratch log occurrences j =
+unfolding answer_says
+not_refuse_everything refusal store scratch log occurrences j =
     let e = j.said ∙ p1_says in
     let z : ◌≡◌ {A = ℕ} 0 1 = cc in omega arith
 
 -- always E is shut out
 pub not_always_equal : NotAlwaysEqual
-unfolding says
+unfolding answer_says
 not_always_equal steps held store scratch log occurrences j =
     let e = j.said ∙ p3_says in
     let z : ◌≡◌ {A = ℕ} 0 1 = cc in omega arith
@@ -89,7 +89,7 @@ not_invent_the_occurrences r store scratch log occurrences other j = other (j.oc
 
 -- an invented count is shut out
 pub not_invent_the_count : NotInventTheCount
-unfolding says
+unfolding answer_says
 not_invent_the_count steps held store scratch log occurrences other j =
     let e = j.said ∙ p6_says in
     let z : held ≡ 2 = cc in other z

@@ -1,5 +1,5 @@
 -- Demand 3: what each answer of the judge means, under every order.
-use Rattle.std.specs.Prelude.{◌≡◌, true, List, ◌↔◌, ◌⊎◌, ℕ, ◌+◌, ◌*◌, ◌^◌, ◌<◌, ◌≤◌, length, get_or}
+use Rattle.std.specs.Prelude.{◌≡◌, true, List, ◌↔◌, ◌⊎◌, ℕ, ◌+◌, ◌*◌, ◌^◌, ◌<◌, ◌≤◌, length, get_or, Result, Ok}
 use Rattle.std.specs.Int.Count.{ones}
 use Rattle.rules.specs.Netlist.{counts_right, table_sound}
 use Rattle.rules.specs.Values.{bit}
@@ -8,13 +8,14 @@ use Rattle.rules.specs.Polynomial.{Polynomial}
 use Rattle.rules.specs.Steps.{after, honest}
 use Rattle.rules.specs.Judging.{Inputs, Judged, shown_for, refusal}
 use Rattle.rules.specs.Desk.{falling}
+use Rattle.rules.specs.declared.refusals.Refusal.{Refusal}
 use Rattle.rules.specs.declared.answers.Answer.{Answer}
 use Rattle.rules.specs.declared.answers.Answer.TheVariants.{Equal, Differs, OutOfRoom, Unfinished}
 use Rattle.rules.specs.declared.answers.StepRecord.{StepRecord}
 use Rattle.rules.specs.declared.counts.Counts.{Counts}
 
 -- an outcome of judging x that the rules permit, and its answer is r
-pub record Answered (x : Inputs) (r : Answer) : Type 0 where
+pub record Answered (x : Inputs) (r : Result Answer Refusal) : Type 0 where
   pub store : List ℕ
   pub scratch : List ℕ
   pub log : List StepRecord
@@ -42,7 +43,7 @@ Right x = (a b c : ℕ) → Operands x a b c → got x a b c ≡ wanted x a b c
 
 -- "equal" only if the outputs are the wanted word for all operands
 abbrev pub EqualRight : Type 0
-EqualRight = (x : Inputs) (steps terms : ℕ) → Answered x (Equal steps terms) → Right x
+EqualRight = (x : Inputs) (steps terms : ℕ) → Answered x (Ok (Equal steps terms)) → Right x
 
 -- operands as one number: a + 2^n·b + 2^(2n)·c
 abbrev pub together : ℕ → ℕ → ℕ → ℕ → ℕ
@@ -64,7 +65,7 @@ pub record Least (x : Inputs) (a b c g w : ℕ) : Type 0 where
 
 -- "differs" names, of all operands that go wrong, those with the fewest 1 bits and of these the smallest
 abbrev pub DiffersRight : Type 0
-DiffersRight = (x : Inputs) (steps terms a b c g w : ℕ) → Answered x (Differs steps terms a b c g w) → Least x a b c g w
+DiffersRight = (x : Inputs) (steps terms a b c g w : ℕ) → Answered x (Ok (Differs steps terms a b c g w)) → Least x a b c g w
 
 -- the polynomial after k steps of the order, with no limit
 abbrev pub following : Inputs → ℕ → Polynomial
@@ -78,8 +79,8 @@ Room x k = length (following x k) ≤ x.limit
 -- the terms held are those before it, and none at the start
 abbrev pub RoomExact : Type 0
 RoomExact =
-    (x : Inputs) (r : Answer) → Answered x r → (k terms : ℕ)
-    → (r ≡ OutOfRoom k terms)
+    (x : Inputs) (r : Result Answer Refusal) → Answered x r → (k terms : ℕ)
+    → (r ≡ Ok (OutOfRoom k terms))
     ↔ ((refusal x ≡ 0) × (k ≤ length x.order) × (x.limit < length (following x k)) × ((j : ℕ) → j < k → Room x j)
     × (((k ≡ 0) × (terms ≡ 0)) ⊎ ((j : ℕ) × (k ≡ j + 1) × (terms ≡ length (following x j)))))
 
@@ -98,13 +99,13 @@ Roomy x = (refusal x ≡ 0) × ((k : ℕ) → k ≤ length x.order → Room x k)
 -- "unfinished" exactly when there is room after every step and a gate variable occurs in the last polynomial
 abbrev pub UnfinishedExact : Type 0
 UnfinishedExact =
-    (x : Inputs) (r : Answer) → Answered x r
-    → ((steps terms : ℕ) × (r ≡ Unfinished steps terms)) ↔ (Roomy x × GateOccurs x.counts (following x (length x.order)))
+    (x : Inputs) (r : Result Answer Refusal) → Answered x r
+    → ((steps terms : ℕ) × (r ≡ Ok (Unfinished steps terms))) ↔ (Roomy x × GateOccurs x.counts (following x (length x.order)))
 
 -- an order that has each gate once, after every gate that reads it, is never "unfinished"
 abbrev pub HonestFinishes : Type 0
 HonestFinishes =
-    (x : Inputs) (steps terms : ℕ) → honest x.counts x.table x.order ≡ true → Answered x (Unfinished steps terms) → ⊥
+    (x : Inputs) (steps terms : ℕ) → honest x.counts x.table x.order ≡ true → Answered x (Ok (Unfinished steps terms)) → ⊥
 
 -- M down to I + 1 is such an order, in every sound table
 abbrev pub ReverseHonest : Type 0
@@ -114,6 +115,6 @@ ReverseHonest =
 -- with such an order and room: "equal" if the block is right under the reading, "differs" if it is not
 abbrev pub HonestDecides : Type 0
 HonestDecides =
-    (x : Inputs) (r : Answer) → Answered x r → Roomy x → honest x.counts x.table x.order ≡ true
-    → (Right x → (steps terms : ℕ) × (r ≡ Equal steps terms))
-    × ((Right x → ⊥) → (steps terms a b c g w : ℕ) × (r ≡ Differs steps terms a b c g w))
+    (x : Inputs) (r : Result Answer Refusal) → Answered x r → Roomy x → honest x.counts x.table x.order ≡ true
+    → (Right x → (steps terms : ℕ) × (r ≡ Ok (Equal steps terms)))
+    × ((Right x → ⊥) → (steps terms a b c g w : ℕ) × (r ≡ Ok (Differs steps terms a b c g w)))

@@ -1,14 +1,12 @@
 -- Demand 2: netlists are read as AIGER defines them, and their gates are evaluated as it says.
-use Rattle.std.specs.Prelude.{◌≡◌, true, false, List, [], ◌∷◌, ◌++◌, ◌↔◌, ℕ, ◌+◌, ◌*◌, ◌^◌, ◌<◌, length, get_or, drop}
+use Rattle.std.specs.Prelude.{◌≡◌, true, false, List, [], ◌∷◌, ◌++◌, ◌↔◌, ℕ, ◌+◌, ◌*◌, ◌^◌, ◌<◌, length, get_or, drop, Result, Ok}
 use Rattle.rules.specs.Each.{sum}
 use Rattle.rules.specs.Netlist.{gate, output, record_at, needed, counts_wrong, table_short, table_sound}
 use Rattle.rules.specs.Says.{answers, word_says}
 use Rattle.rules.specs.Values.{width, bit, literal_value, record_value, Evaluated}
 use Rattle.rules.specs.Text.{text_of}
 use Rattle.rules.specs.Reading.{ReadAs}
-use Rattle.rules.specs.declared.answers.Text.{Text}
-use Rattle.rules.specs.declared.answers.Text.TheVariants.{Read}
-use Rattle.rules.specs.declared.answers.Word.{Word}
+use Rattle.rules.specs.declared.refusals.Refusal.{Refusal}
 use Rattle.rules.specs.declared.counts.Counts.{Counts}
 use Rattle.rules.specs.declared.records.RecordKind.TheVariants.{Gates}
 
@@ -25,8 +23,8 @@ pub record Written (text : List ℕ) (lent : ℕ) (c : Counts) (table : List ℕ
 -- words past them keep their values
 abbrev pub TextExact : Type 0
 TextExact =
-    (text lent : List ℕ) (r : Text) (exit : List ℕ) → ReadAs text lent r exit → (c : Counts) (table : List ℕ)
-    → ((r ≡ Read c) × (exit ≡ table ++ drop (needed c) lent) × (length table ≡ needed c))
+    (text lent : List ℕ) (r : Result Counts Refusal) (exit : List ℕ) → ReadAs text lent r exit → (c : Counts) (table : List ℕ)
+    → ((r ≡ Ok c) × (exit ≡ table ++ drop (needed c) lent) × (length table ≡ needed c))
     ↔ Written text (length lent) c table
 
 -- values of all variables: 0 is false, inputs are the operand bits, each gate is the value of its record
@@ -40,7 +38,7 @@ pub record Assignment (c : Counts) (table : List ℕ) (a b : ℕ) (values : List
 -- the word that the evaluator gives is shown by the one assignment of the gates, output 0 lowest
 abbrev pub ValuesAreTheGates : Type 0
 ValuesAreTheGates =
-    (c : Counts) (table : List ℕ) (a b : ℕ) (r : Word) → Evaluated c table a b r
+    (c : Counts) (table : List ℕ) (a b : ℕ) (r : Result ℕ Refusal) → Evaluated c table a b r
     → (word : ℕ) → word_says r ≡ answers 0 (word ∷ [])
     → (values : List ℕ) × Assignment c table a b values
     × ((others : List ℕ) → Assignment c table a b others → others ≡ values)

@@ -1,10 +1,11 @@
 -- The peak of a step: how many terms it had before gathering, as the log tells it.
-use Rattle.std.specs.Prelude.{◌≡◌, ℕ, suc, ◌*◌, ◌<◌, ◌≤◌, length, get_or}
+use Rattle.std.specs.Prelude.{◌≡◌, ℕ, suc, ◌*◌, ◌<◌, ◌≤◌, length, get_or, Result}
 use Rattle.rules.specs.Netlist.{record_at}
 use Rattle.rules.specs.Product.{kind_of}
 use Rattle.rules.specs.Polynomial.{Polynomial}
 use Rattle.rules.specs.Steps.{modulus, all_replaced}
 use Rattle.rules.specs.Judging.{Inputs, most_made, completed, polynomials, refusal}
+use Rattle.rules.specs.declared.refusals.Refusal.{Refusal}
 use Rattle.rules.specs.declared.answers.Answer.{Answer}
 use Rattle.rules.specs.declared.answers.StepRecord.{StepRecord}
 use Rattle.demands.specs.Answers.{Answered, Occurs, following}
@@ -28,5 +29,5 @@ pub record Peak (x : Inputs) (k : ℕ) (s : StepRecord) : Type 0 where
 -- where nothing is refused the log has such a record of every step completed
 abbrev pub PeakExact : Type 0
 PeakExact =
-    (x : Inputs) (r : Answer) (answered : Answered x r) → refusal x ≡ 0
+    (x : Inputs) (r : Result Answer Refusal) (answered : Answered x r) → refusal x ≡ 0
     → (k : ℕ) → k < completed x.limit (polynomials x) → (none : StepRecord) → Peak x k (get_or answered.log k none)

@@ -1,5 +1,5 @@
 -- Demand 1: refused are the unfit and no others, with the number that the rules give, and a refusal changes no lent word.
-use Rattle.std.specs.Prelude.{◌≡◌, Bool, true, false, List, [], ◌∷◌, ◌++◌, ◌⊎◌, ◌↔◌, ℕ, ◌<◌, ◌≤◌, length, get_or, take}
+use Rattle.std.specs.Prelude.{◌≡◌, Bool, true, false, List, [], ◌∷◌, ◌++◌, ◌⊎◌, ◌↔◌, ℕ, ◌<◌, ◌≤◌, length, get_or, take, Result}
 use Rattle.rules.specs.Each.{each, joined}
 use Rattle.rules.specs.Says.{refuses, says, text_says, word_says}
 use Rattle.rules.specs.Netlist.{output, output_sound, table_sound, counts_wrong, table_short}
@@ -9,11 +9,10 @@ use Rattle.rules.specs.Text.{header_text, input_text, output_text, text_of}
 use Rattle.rules.specs.Reading.{ReadAs}
 use Rattle.rules.specs.Limits.{most_desk_bytes, most_desk_variables}
 use Rattle.rules.specs.Desk.{desk_table, desk_checks, kind_line, printed, Lined}
+use Rattle.rules.specs.declared.refusals.Refusal.{Refusal}
 use Rattle.rules.specs.declared.answers.Answer.{Answer}
 use Rattle.rules.specs.declared.answers.Line.{Line}
 use Rattle.rules.specs.declared.answers.StepRecord.{StepRecord}
-use Rattle.rules.specs.declared.answers.Text.{Text}
-use Rattle.rules.specs.declared.answers.Word.{Word}
 use Rattle.rules.specs.declared.counts.Counts.{Counts}
 use Rattle.rules.specs.declared.records.RecordKind.TheVariants.{Gates}
 use Rattle.demands.specs.Netlists.{Written}
@@ -26,14 +25,14 @@ First (check ∷ later) k = ((check.0 ≡ k) × (check.1 ≡ true)) ⊎ ((check.
 -- the judge refuses with k exactly when condition k holds and none before it
 abbrev pub JudgeRefusedExact : Type 0
 JudgeRefusedExact =
-    (x : Inputs) (r : Answer) (store scratch : List ℕ) (log : List StepRecord) (occurrences : List ℕ)
+    (x : Inputs) (r : Result Answer Refusal) (store scratch : List ℕ) (log : List StepRecord) (occurrences : List ℕ)
     → Judged x r store scratch log occurrences
     → (k : ℕ) → (says r ≡ refuses k) ↔ First (checks x) k
 
 -- then every lent word is as it was
 abbrev pub JudgeRefusalKeeps : Type 0
 JudgeRefusalKeeps =
-    (x : Inputs) (r : Answer) (store scratch : List ℕ) (log : List StepRecord) (occurrences : List ℕ)
+    (x : Inputs) (r : Result Answer Refusal) (store scratch : List ℕ) (log : List StepRecord) (occurrences : List ℕ)
     → Judged x r store scratch log occurrences
     → (k : ℕ) → says r ≡ refuses k
     → (store ≡ x.store) × (scratch ≡ x.scratch) × (log ≡ x.log) × (occurrences ≡ x.occurrences)
@@ -41,7 +40,7 @@ JudgeRefusalKeeps =
 -- the evaluator refuses with k exactly when condition k holds and none before it; it is lent nothing that it may change
 abbrev pub EvaluateRefusedExact : Type 0
 EvaluateRefusedExact =
-    (c : Counts) (table : List ℕ) (a b : ℕ) (r : Word) → Evaluated c table a b r
+    (c : Counts) (table : List ℕ) (a b : ℕ) (r : Result ℕ Refusal) → Evaluated c table a b r
     → (k : ℕ) → (word_says r ≡ refuses k) ↔ First (evaluate_checks c table) k
 
 -- a text begins with a part
@@ -99,13 +98,13 @@ pub data Unread (lent : ℕ) (text : List ℕ) : ℕ → Type 0 where
 -- reading refuses with k exactly when that is what is wrong
 abbrev pub ReadRefusedExact : Type 0
 ReadRefusedExact =
-    (text table : List ℕ) (r : Text) (table_exit : List ℕ) → ReadAs text table r table_exit
+    (text table : List ℕ) (r : Result Counts Refusal) (table_exit : List ℕ) → ReadAs text table r table_exit
     → (k : ℕ) → (text_says r ≡ refuses k) ↔ Unread (length table) text k
 
 -- then the table is as it was
 abbrev pub ReadRefusalKeeps : Type 0
 ReadRefusalKeeps =
-    (text table : List ℕ) (r : Text) (table_exit : List ℕ) → ReadAs text table r table_exit
+    (text table : List ℕ) (r : Result Counts Refusal) (table_exit : List ℕ) → ReadAs text table r table_exit
     → (k : ℕ) → text_says r ≡ refuses k → table_exit ≡ table
 
 -- the desk's input is the line of this kind, and a netlist text

@@ -1,8 +1,9 @@
 -- Programs that do not do the work, each shut out by a row of the bench sheet: its outcome is not permitted.
-use Rattle.std.specs.Prelude.{◌≡◌, List, [], ◌∷◌, map, ℕ, ◌+◌, get_or, replicate}
+use Rattle.std.specs.Prelude.{◌≡◌, List, [], ◌∷◌, map, ℕ, ◌+◌, get_or, replicate, Result, Ok, Err}
 use Rattle.rules.specs.Judging.{Inputs, Judged}
+use Rattle.rules.specs.declared.refusals.Refusal.{Refusal}
 use Rattle.rules.specs.declared.answers.Answer.{Answer}
-use Rattle.rules.specs.declared.answers.Answer.TheVariants.{Equal, Unfinished, Refused}
+use Rattle.rules.specs.declared.answers.Answer.TheVariants.{Equal, Unfinished}
 use Rattle.rules.specs.declared.answers.StepRecord.{StepRecord}
 use Rattle.rules.specs.declared.counts.Counts.{Counts}
 use Rattle.rules.specs.declared.records.RecordKind.TheVariants.{Gates}
@@ -47,18 +48,18 @@ p10 =
 -- refusing everything
 abbrev pub NotRefuseEverything : Type 0
 NotRefuseEverything =
-    (number : ℕ) (store scratch : List ℕ) (log : List StepRecord) (occurrences : List ℕ)
-    → Judged p1 (Refused number) store scratch log occurrences → ⊥
+    (refusal : Refusal) (store scratch : List ℕ) (log : List StepRecord) (occurrences : List ℕ)
+    → Judged p1 (Err refusal) store scratch log occurrences → ⊥
 
 -- always E
 abbrev pub NotAlwaysEqual : Type 0
 NotAlwaysEqual =
     (steps held : ℕ) (store scratch : List ℕ) (log : List StepRecord) (occurrences : List ℕ)
-    → Judged p3 (Equal steps held) store scratch log occurrences → ⊥
+    → Judged p3 (Ok (Equal steps held)) store scratch log occurrences → ⊥
 
 -- touching nothing
 abbrev pub NotTouchNothing : Type 0
-NotTouchNothing = (r : Answer) → Judged p3 r p3.store p3.scratch p3.log p3.occurrences → ⊥
+NotTouchNothing = (r : Result Answer Refusal) → Judged p3 r p3.store p3.scratch p3.log p3.occurrences → ⊥
 
 -- the terms after the first step, as a log has them
 abbrev pub first_terms : List StepRecord → ℕ
@@ -67,7 +68,7 @@ first_terms log = get_or (map (λ (s : StepRecord). s.terms) log) 0 0
 -- reducing wholly in the first step and logging the rest: no terms are left after it
 abbrev pub NotReduceAtOnce : Type 0
 NotReduceAtOnce =
-    (r : Answer) (store scratch : List ℕ) (log : List StepRecord) (occurrences : List ℕ) → first_terms log ≡ 0
+    (r : Result Answer Refusal) (store scratch : List ℕ) (log : List StepRecord) (occurrences : List ℕ) → first_terms log ≡ 0
     → Judged p10 r store scratch log occurrences → ⊥
 
 -- the terms of the first step before gathering, as a log has them
@@ -77,22 +78,22 @@ first_made log = get_or (map (λ (s : StepRecord). s.made) log) 0 0
 -- counting the peak after gathering: the step of P1 has then as many terms as it leaves
 abbrev pub NotCountAfterGathering : Type 0
 NotCountAfterGathering =
-    (r : Answer) (store scratch : List ℕ) (log : List StepRecord) (occurrences : List ℕ) → first_made log ≡ first_terms log
+    (r : Result Answer Refusal) (store scratch : List ℕ) (log : List StepRecord) (occurrences : List ℕ) → first_made log ≡ first_terms log
     → Judged p1 r store scratch log occurrences → ⊥
 
 -- counting the occurrences at the start alone: these are the start's, and the step of P1 leaves no term
 abbrev pub NotCountAtTheStart : Type 0
 NotCountAtTheStart =
-    (r : Answer) (store scratch : List ℕ) (log : List StepRecord) → Judged p1 r store scratch log (2 ∷ 1 ∷ 1 ∷ 1 ∷ []) → ⊥
+    (r : Result Answer Refusal) (store scratch : List ℕ) (log : List StepRecord) → Judged p1 r store scratch log (2 ∷ 1 ∷ 1 ∷ 1 ∷ []) → ⊥
 
 -- inventing the occurrences: any but those of P6, where no step is taken
 abbrev pub NotInventTheOccurrences : Type 0
 NotInventTheOccurrences =
-    (r : Answer) (store scratch : List ℕ) (log : List StepRecord) (occurrences : List ℕ) → (occurrences ≡ 2 ∷ 1 ∷ 1 ∷ 1 ∷ [] → ⊥)
+    (r : Result Answer Refusal) (store scratch : List ℕ) (log : List StepRecord) (occurrences : List ℕ) → (occurrences ≡ 2 ∷ 1 ∷ 1 ∷ 1 ∷ [] → ⊥)
     → Judged p6 r store scratch log occurrences → ⊥
 
 -- inventing the term count: any but the number of terms held
 abbrev pub NotInventTheCount : Type 0
 NotInventTheCount =
     (steps held : ℕ) (store scratch : List ℕ) (log : List StepRecord) (occurrences : List ℕ) → (held ≡ 2 → ⊥)
-    → Judged p6 (Unfinished steps held) store scratch log occurrences → ⊥
+    → Judged p6 (Ok (Unfinished steps held)) store scratch log occurrences → ⊥

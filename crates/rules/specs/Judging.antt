@@ -1,5 +1,5 @@
 -- What the judge answers, and every lent word when it returns.
-use Rattle.std.specs.Prelude.{◌≡◌, Bool, not, cond, ◌||◌, ◌&&◌, List, [], ◌∷◌, ◌++◌, ℕ, zero, suc, pred, ◌+◌, ◌-◌, ◌*◌, ◌/◌, ◌%◌, ◌^◌, leb, ltb, eqb, length, get_or, take, drop, replicate}
+use Rattle.std.specs.Prelude.{◌≡◌, Bool, not, cond, ◌||◌, ◌&&◌, List, [], ◌∷◌, ◌++◌, ℕ, zero, suc, pred, ◌+◌, ◌-◌, ◌*◌, ◌/◌, ◌%◌, ◌^◌, leb, ltb, eqb, length, get_or, take, drop, replicate, Result}
 use Rattle.std.specs.Int.Count.{ones}
 use Rattle.rules.specs.Each.{every, listed}
 use Rattle.rules.specs.Limits.{terms_wrong, steps_wrong}
@@ -11,6 +11,7 @@ use Rattle.rules.specs.Polynomial.{Term, Polynomial}
 use Rattle.rules.specs.Steps.{modulus, made, run}
 use Rattle.rules.specs.Says.{Says, answers, first, refuse_or, says}
 use Rattle.rules.specs.declared.answers.Answer.{Answer}
+use Rattle.rules.specs.declared.refusals.Refusal.{Refusal}
 use Rattle.rules.specs.declared.answers.StepRecord.{StepRecord}
 use Rattle.rules.specs.declared.counts.Counts.{Counts}
 use Rattle.rules.specs.declared.records.RecordKind.{RecordKind}
@@ -221,7 +222,7 @@ occurrences_after x =
     kept_or (refusal x) x.occurrences new
 
 -- the permitted outcome of the judge: its answer and every lent buffer at exit
-pub record Judged (x : Inputs) (r : Answer) (store scratch : List ℕ) (log : List StepRecord) (occurrences : List ℕ) : Type 0 where
+pub record Judged (x : Inputs) (r : Result Answer Refusal) (store scratch : List ℕ) (log : List StepRecord) (occurrences : List ℕ) : Type 0 where
   pub said : says r ≡ judging x
   pub store_words : store ≡ store_after x
   pub scratch_words : scratch ≡ scratch_after x

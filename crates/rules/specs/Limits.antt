@@ -1,7 +1,8 @@
 -- The least and the most of what is taken, and what the maker of limits answers.
-use Rattle.std.specs.Prelude.{◌≡◌, Bool, ◌||◌, [], ◌∷◌, ℕ, ltb}
+use Rattle.std.specs.Prelude.{◌≡◌, Bool, ◌||◌, [], ◌∷◌, ℕ, ltb, Result}
 use Rattle.rules.specs.Says.{Says, answers, first, refuse_or, made_says}
-use Rattle.rules.specs.declared.limits.Made.{Made}
+use Rattle.rules.specs.declared.limits.Limits.{Limits}
+use Rattle.rules.specs.declared.refusals.Refusal.{Refusal}
 
 -- the term limit T
 abbrev pub least_terms : ℕ
@@ -62,5 +63,5 @@ making t m s =
     refuse_or (first ((2, variables_wrong m) ∷ (10, terms_wrong t) ∷ (11, steps_wrong s) ∷ [])) (answers 0 (t ∷ m ∷ s ∷ []))
 
 -- the permitted outcome of the maker, from term limit, M and steps
-pub record Makes (t m s : ℕ) (r : Made) : Type 0 where
+pub record Makes (t m s : ℕ) (r : Result Limits Refusal) : Type 0 where
   pub said : made_says r ≡ making t m s

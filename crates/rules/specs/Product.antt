@@ -1,11 +1,11 @@
 -- The five readings: operands and their places, outputs, the wanted word, and the specification polynomial.
-use Rattle.std.specs.Prelude.{◌≡◌, Bool, true, false, cond, ◌||◌, ◌&&◌, [], ◌∷◌, ◌++◌, ℕ, zero, suc, ◌+◌, ◌-◌, ◌*◌, ◌/◌, ◌%◌, ◌^◌, leb, ltb, eqb}
+use Rattle.std.specs.Prelude.{◌≡◌, Bool, true, false, cond, ◌||◌, ◌&&◌, [], ◌∷◌, ◌++◌, ℕ, zero, suc, ◌+◌, ◌-◌, ◌*◌, ◌/◌, ◌%◌, ◌^◌, leb, ltb, eqb, Result}
 use Rattle.std.specs.Bool.{xor}
 use Rattle.rules.specs.Each.{joined}
 use Rattle.rules.specs.Limits.{most_inputs}
 use Rattle.rules.specs.Polynomial.{Term, Polynomial}
 use Rattle.rules.specs.Says.{Says, answers, first, refuse_or, word_says}
-use Rattle.rules.specs.declared.answers.Word.{Word}
+use Rattle.rules.specs.declared.refusals.Refusal.{Refusal}
 use Rattle.rules.specs.declared.counts.Counts.{Counts}
 
 -- u, s, t, m and ms
@@ -116,7 +116,7 @@ wanting kind n a b c =
     refuse_or (first ((2, width_wrong (kind_of kind) n) ∷ (9, kind_unknown kind) ∷ [])) word
 
 -- the permitted outcome of asking for the wanted word; nothing is lent
-pub record Wanted (kind n a b c : ℕ) (r : Word) : Type 0 where
+pub record Wanted (kind n a b c : ℕ) (r : Result ℕ Refusal) : Type 0 where
   pub said : word_says r ≡ wanting kind n a b c
 
 -- the sign of a_i b_j in the product: below 0 when exactly one of i, j is n - 1 in two's complement

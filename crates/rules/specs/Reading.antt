@@ -1,9 +1,9 @@
 -- Reading a netlist text, with the refusals in text order.
-use Rattle.std.specs.Prelude.{◌≡◌, Bool, cond, not, ◌&&◌, ◌||◌, List, [], ◌∷◌, ◌++◌, ℕ, zero, suc, ◌+◌, ◌-◌, ◌*◌, leb, eqb, length, get_or, drop}
+use Rattle.std.specs.Prelude.{◌≡◌, Bool, cond, not, ◌&&◌, ◌||◌, List, [], ◌∷◌, ◌++◌, ℕ, zero, suc, ◌+◌, ◌-◌, ◌*◌, leb, eqb, length, get_or, drop, Result}
 use Rattle.rules.specs.Netlist.{gate, counts_wrong, table_short, output_sound, gate_sound}
 use Rattle.rules.specs.Says.{Says, refuses, answers, first, text_says, text_records}
 use Rattle.rules.specs.Text.{line_feed, space, header_word}
-use Rattle.rules.specs.declared.answers.Text.{Text}
+use Rattle.rules.specs.declared.refusals.Refusal.{Refusal}
 use Rattle.rules.specs.declared.counts.Counts.{Counts}
 use Rattle.rules.specs.declared.records.RecordKind.TheVariants.{Gates}
 
@@ -153,7 +153,7 @@ table_after (netlist c words) table = words ++ drop (length words) table
 table_after (refused k) table = table
 
 -- the permitted outcome of reading: its answer, a table of AND gates, and its words at exit
-pub record ReadAs (text table : List ℕ) (r : Text) (table_exit : List ℕ) : Type 0 where
+pub record ReadAs (text table : List ℕ) (r : Result Counts Refusal) (table_exit : List ℕ) : Type 0 where
   pub said : text_says r ≡ reading_says (reading (length table) text)
   pub records : text_records r ≡ Gates
   pub table_words : table_exit ≡ table_after (reading (length table) text) table

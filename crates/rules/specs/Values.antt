@@ -1,9 +1,9 @@
 -- The values of a netlist's variables for two words that hold its inputs, and the word that its outputs show.
-use Rattle.std.specs.Prelude.{◌≡◌, Bool, List, [], ◌∷◌, ◌++◌, ℕ, zero, suc, ◌+◌, ◌-◌, ◌*◌, ◌/◌, ◌%◌, ◌^◌, length, get_or}
+use Rattle.std.specs.Prelude.{◌≡◌, Bool, List, [], ◌∷◌, ◌++◌, ℕ, zero, suc, ◌+◌, ◌-◌, ◌*◌, ◌/◌, ◌%◌, ◌^◌, length, get_or, Result}
 use Rattle.rules.specs.Each.{sum, listed}
 use Rattle.rules.specs.Netlist.{variable, inverted, gate, output, record_at, counts_wrong, table_short, table_unsound}
 use Rattle.rules.specs.Says.{Says, answers, first, refuse_or, word_says}
-use Rattle.rules.specs.declared.answers.Word.{Word}
+use Rattle.rules.specs.declared.refusals.Refusal.{Refusal}
 use Rattle.rules.specs.declared.counts.Counts.{Counts}
 use Rattle.rules.specs.declared.records.Record.{Record}
 use Rattle.rules.specs.declared.records.Record.TheVariants.{Gate, Cell}
@@ -67,5 +67,5 @@ evaluating c table a b =
     refuse_or (first (evaluate_checks c table)) word
 
 -- the permitted outcome of the evaluator, from counts, table and the two words; it is lent nothing that it may change
-pub record Evaluated (c : Counts) (table : List ℕ) (a b : ℕ) (r : Word) : Type 0 where
+pub record Evaluated (c : Counts) (table : List ℕ) (a b : ℕ) (r : Result ℕ Refusal) : Type 0 where
   pub said : word_says r ≡ evaluating c table a b

@@ -1,19 +1,4 @@
-// What the entry points answer. specs/Says.antt has the number and the values of document 01 for each case.
-use crate::counts::Counts;
-
-// Of reading a netlist text.
-#[derive(Clone, Copy)]
-pub enum Text {
-    Read(Counts),
-    Refused(u32),
-}
-
-// Of evaluating one pair of words, and of asking for the wanted word of operands.
-#[derive(Clone, Copy)]
-pub enum Word {
-    Is(u64),
-    Refused(u32),
-}
+// What the entry points answer where nothing is refused. specs/Says.antt has the number and the values of document 01 for each case.
 
 // Of judging.
 #[derive(Clone, Copy)]
@@ -39,7 +24,6 @@ pub enum Answer {
         steps: usize,
         terms: usize,
     },
-    Refused(u32),
 }
 
 // In the log of the judge, for a step completed: its gate, the number of terms after it, and the number before like ones were gathered.

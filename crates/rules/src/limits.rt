@@ -1,18 +1,14 @@
 // The least and the most of what is taken. These numbers stand nowhere else in any code.
 ghost use Rattle.rules.specs.Limits.{Makes};
 
+use crate::refusals::Refusal;
+
 // Limits that lie within their bounds: term limit, variables M and steps of the order.
 #[derive(Clone, Copy)]
 pub struct Limits {
     pub terms: usize,
     pub variables: usize,
     pub steps: usize,
-}
-
-#[derive(Clone, Copy)]
-pub enum Made {
-    Within(Limits),
-    Refused(u32),
 }
 
 impl Limits {
@@ -43,26 +39,20 @@ impl Limits {
     pub const DESK_TERMS: u64 = 512;
 
     // The limits where all three lie within their bounds, or the first refusal in the order of checks.
-    #[tactic(auto, using(std::proofs::lemmas::Bool::Decides::nat_tests), unfolding(crate::specs::Limits::variables_wrong, crate::specs::Limits::terms_wrong, crate::specs::Limits::steps_wrong, crate::specs::Limits::making, crate::specs::Says::first, crate::specs::Says::refuse_or, crate::specs::Says::made_says))]
-    pub fn made(terms: u64, variables: u32, steps: usize) -> Made
+    #[tactic(auto, using(std::proofs::lemmas::Bool::Decides::nat_tests), unfolding(crate::specs::Limits::variables_wrong, crate::specs::Limits::terms_wrong, crate::specs::Limits::steps_wrong, crate::specs::Limits::making, crate::specs::Says::first, crate::specs::Says::refuse_or))]
+    pub fn made(terms: u64, variables: u32, steps: usize) -> Result<Limits, Refusal>
         ensures { Makes terms variables steps result }
     {
-        if variables < Limits::VARIABLES_LEAST {
-            return Made::Refused(2);
+        if !(Limits::VARIABLES_LEAST..=Limits::VARIABLES_MOST).contains(&variables) {
+            return Err(Refusal::CountOutside);
         }
-        if Limits::VARIABLES_MOST < variables {
-            return Made::Refused(2);
+        if !(Limits::TERMS_LEAST..=Limits::TERMS_MOST).contains(&terms) {
+            return Err(Refusal::TermLimit);
         }
-        if terms < Limits::TERMS_LEAST {
-            return Made::Refused(10);
+        if !(Limits::STEPS_LEAST..=Limits::STEPS_MOST).contains(&steps) {
+            return Err(Refusal::WrongOrder);
         }
-        if Limits::TERMS_MOST < terms {
-            return Made::Refused(10);
-        }
-        if Limits::STEPS_MOST < steps {
-            return Made::Refused(11);
-        }
-        Made::Within(Limits {
+        Ok(Limits {
             terms: terms as usize,
             variables: variables as usize,
             steps,

@@ -23,7 +23,9 @@ pub enum Refusal {
 impl From<Refusal> for u32 {
     ghost from_gives = { Numbers };
 
-    fn from(refusal: Refusal) -> u32 {
+    fn from(refusal: Refusal) -> u32
+        ensures { Numbers refusal result }
+    {
         match refusal {
             Refusal::Header => 1,
             Refusal::CountOutside => 2,

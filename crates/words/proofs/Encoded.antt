@@ -1,6 +1,7 @@
 -- The words of a polynomial decode to it, and words with zeros behind the terms that they decode to are its words.
 use Rattle.std.proofs.Common.{◌≡◌, ℕ, zero, suc, ◌+◌, ◌-◌, ◌*◌, ◌/◌, ◌%◌, ◌^◌, ◌<◌, ◌≤◌, List, [], ◌∷◌, ◌++◌, length, get_or, take, drop, replicate, sym, refl, ap, ◌∙◌, append_assoc, mod-eq_of_lt, mul_assoc, suc-mul, zero-mul, div-one, arith, length-append, length-drop, take-append-drop, length-take-le, get_or-drop, drop-drop, take_at, ext_get_or, take-add, drop_at, pow-add, shr-shr}
-use native.Mathlib.Nat.{sub-zero, mod-one}
+use native.Mathlib.Nat.{mod-one}
+use Rattle.std.proofs.lemmas.List.{drop-replicate}
 use lib.ListN.{length-replicate}
 use lib.Pow.{high, low, mod-pow-add}
 use Rattle.rules.specs.Each.{listed}
@@ -80,18 +81,12 @@ words_decoded w (suc k) (x ∷ s) f h =
     let b : polynomial_words w (decoded w k (drop w s)) ≡ take (k * (w + 1)) (drop w s) = words_decoded w k (drop w s) (λ n. rw (get_or-drop w s n 0) (f (suc (w + n)))) (simp length-drop (omega arith)) in
     rw (e, a, b, take-add w (k * (w + 1)) s)
 
--- zeros, but for the first
-pub drop_zeros : (i n : ℕ) → drop {A = ℕ} i (replicate n 0) ≡ replicate (n - i) 0
-drop_zeros zero n = rw (sub-zero)
-drop_zeros (suc i) zero = let e : 0 - suc i ≡ 0 = omega arith in rw e
-drop_zeros (suc i) (suc n) = let e : suc n - suc i ≡ n - i = omega arith in rw e (drop_zeros i n)
-
 -- zeros, seen from further behind
 pub zeros_later : (a b : ℕ) (s : List ℕ) → a ≤ b → drop a s ≡ replicate (length s - a) 0 → drop b s ≡ replicate (length s - b) 0
 zeros_later a b s h z =
     let q : a + (b - a) ≡ b = omega arith in
     let n : length s - a - (b - a) ≡ length s - b = omega arith in
-    sym (drop-drop (b - a) a s ∙ rw q) ∙ ap (λ (x : List ℕ). drop (b - a) x) z ∙ drop_zeros (b - a) (length s - a) ∙ rw n
+    sym (drop-drop (b - a) a s ∙ rw q) ∙ ap (λ (x : List ℕ). drop (b - a) x) z ∙ drop-replicate (b - a) (length s - a) 0 ∙ rw n
 
 -- words with zeros behind them are as long as what was lent
 pub length_padded : (lent : ℕ) (words : List ℕ) → length words ≤ lent → length (padded lent words) ≡ lent
@@ -114,9 +109,3 @@ module _ (w : ℕ) (s : List ℕ) where
       ap (λ (x : List ℕ). drop (length p * (w + 1)) x) h
       ∙ drop_at (polynomial_words w p) (replicate (length s - length (polynomial_words w p)) 0) (length p * (w + 1)) (length_polynomial_words w p)
       ∙ rw (length_polynomial_words w p)
-
-  -- words that are those of a polynomial decode to it
-  pub decoded_stored : (p : Polynomial) → Under (2 ^ (64 * w)) p → s ≡ padded (length s) (polynomial_words w p) → decoded w (length p) s ≡ p
-  unfolding padded
-  decoded_stored p u h =
-      ap (decoded w (length p)) h ∙ decoded_words w p (replicate (length s - length (polynomial_words w p)) 0) u

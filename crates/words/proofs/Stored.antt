@@ -2,14 +2,21 @@
 use Rattle.std.proofs.Common.{◌≡◌, ℕ, zero, suc, ◌+◌, ◌-◌, ◌*◌, ◌<◌, ◌≤◌, List, [], ◌∷◌, ◌++◌, length, get_or, take, drop, sym, refl, ap, ◌∙◌, mul-le-mul_right, suc-mul, add-mul, suc-add, one-mul, zero-add, zero-mul, add-one, add-one-le, arith, length-drop, take-append-drop, length-take-le, get_or-drop, drop-drop, take_at, drop_at}
 use lib.ListN.{get_or-append}
 use lib.Seq.{take-append-le, drop-append-le}
-use Rattle.words.specs.Numbers.{num}
+use Rattle.rules.specs.Polynomial.{Term}
+use Rattle.words.specs.Listed.{terms_of}
+use Rattle.words.specs.Numbers.{num, words_at}
 use Rattle.words.specs.Stored.{term_at, decoded}
+use Rattle.words.specs.declared.listed.Terms.{Terms}
 
 -- k terms are k
 pub length_decoded : (w k : ℕ) (s : List ℕ) → length (decoded w k s) ≡ k
 unfolding decoded
 length_decoded w zero s = refl
 length_decoded w (suc k) s = ap suc (length_decoded w k (drop (suc w) s))
+
+-- terms are as many as their count
+pub length_terms : (t : Terms) → length (terms_of t) ≡ t.count
+length_terms t = length_decoded t.width t.count t.words.now
 
 -- the i-th term stands at word i (w + 1)
 pub decoded_at : (w k i : ℕ) (s : List ℕ) → i < k → get_or (decoded w k s) i (0, 0) ≡ term_at w s (i * (w + 1))
@@ -20,6 +27,10 @@ decoded_at w (suc k) (suc i) s h =
     let e : suc i * (w + 1) ≡ suc w + i * (w + 1) = omega (arith, suc-mul i (w + 1)) in
     let f : suc w + (i * (w + 1) + 1) ≡ suc w + i * (w + 1) + 1 = omega arith in
     rw (e, decoded_at w k i (drop (suc w) s) (omega arith), get_or-drop (suc w) s (i * (w + 1)) 0, drop-drop (i * (w + 1) + 1) (suc w) s, f)
+
+-- the set of the i-th term
+pub decoded_set : (w k i : ℕ) (s : List ℕ) → i < k → (get_or (decoded w k s) i (0, 0)).1 ≡ num (words_at s (i * (w + 1) + 1) w)
+decoded_set w k i s h = ap (λ (t : Term). t.1) (decoded_at w k i s h)
 
 -- the first k, and the rest
 pub decoded_split : (w k m : ℕ) (s : List ℕ) → decoded w (k + m) s ≡ decoded w k s ++ decoded w m (drop (k * suc w) s)

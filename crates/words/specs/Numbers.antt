@@ -1,7 +1,5 @@
--- A set read from its words as one number, the lowest word first; words under a mask; the order of two numbers.
-use Rattle.std.specs.Prelude.{ℕ, ◌+◌, ◌*◌, ◌^◌, ◌<◌, Bool, true, false, List, [], ◌∷◌, take, drop, bit_xor, nat_lt}
-use Rattle.words.specs.declared.sets.Order.{Order}
-use Rattle.words.specs.declared.sets.Order.TheVariants.{Less, Same, More}
+-- A set read from its words as one number, the lowest word first; words under a mask.
+use Rattle.std.specs.Prelude.{ℕ, ◌+◌, ◌*◌, ◌^◌, ◌<◌, List, [], ◌∷◌, take, drop, bit_xor}
 
 -- the number of a list of words
 unfoldable pub num : List ℕ → ℕ
@@ -18,17 +16,11 @@ masked [] masks = []
 masked (x ∷ xs) [] = []
 masked (x ∷ xs) (y ∷ ys) = bit_xor x y ∷ masked xs ys
 
+-- the number of the w words at i under that of the mask at a
+abbrev pub under_mask : List ℕ → ℕ → List ℕ → ℕ → ℕ → ℕ
+under_mask words i masks a w = bit_xor (num (words_at words i w)) (num (words_at masks a w))
+
 -- every entry is a word of 64 bits
 abbrev pub Words : List ℕ → Type 0
 Words [] = Unit
 Words (x ∷ xs) = (x < 2 ^ 64) × Words xs
-
--- Less, Same or More, by the two tests
-unfoldable pub order_by : Bool → Bool → Order
-order_by true more = Less
-order_by false true = More
-order_by false false = Same
-
--- the order of two numbers
-unfoldable pub order_of : ℕ → ℕ → Order
-order_of m n = order_by (nat_lt m n) (nat_lt n m)

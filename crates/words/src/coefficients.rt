@@ -3,7 +3,7 @@ ghost use Rattle.std.specs.Prelude.{◌≡◌, ◌+◌, ◌-◌, ◌%◌, ◌^�
 
 // c dropped to l bits.
 #[tactic(auto, using(crate::proofs::Numbers::one_shifted))]
-fn dropped(c: u64, l: u32) -> u64
+pub fn dropped(c: u64, l: u32) -> u64
     requires { l ≤ 64 }
     ensures { result ≡ c % 2 ^ l }
 {
@@ -14,17 +14,19 @@ fn dropped(c: u64, l: u32) -> u64
 }
 
 // a + b modulo 2^l.
+#[tactic(auto, using(crate::proofs::Writing::drop_wrap))]
 pub fn sum(a: u64, b: u64, l: u32) -> u64
     requires { l ≤ 64 }
     ensures { result ≡ (a + b) % 2 ^ l }
 {
-    dropped(std::num::wrapping_add_u64(a, b), l)
+    dropped(a.wrapping_add(b), l)
 }
 
 // a - b modulo 2^l.
+#[tactic(auto, using(crate::proofs::Writing::wrap_back))]
 pub fn difference(a: u64, b: u64, l: u32) -> u64
     requires { (l ≤ 64) × (b ≤ 2 ^ l) }
     ensures { result ≡ (a + (2 ^ l - b)) % 2 ^ l }
 {
-    dropped(std::num::wrapping_sub_u64(a, b), l)
+    dropped(a.wrapping_sub(b), l)
 }

@@ -3,6 +3,7 @@
 #![tactic(auto)]
 
 pub mod coefficients;
+pub mod listed;
 pub mod sets;
 pub mod stretches;
 pub mod terms;

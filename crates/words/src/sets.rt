@@ -1,13 +1,24 @@
 // Sets of variables, each in w words.
-ghost use Rattle.std.specs.Prelude.{◌≡◌, ◌+◌, ◌*◌, ◌/◌, ◌%◌, ◌^◌, ◌<◌, ◌≤◌, length, set, bit_xor, slice_index, slice_set};
+ghost use Rattle.std.specs.Prelude.{◌≡◌, ℕ, ◌+◌, ◌*◌, ◌/◌, ◌%◌, ◌^◌, ◌<◌, ◌≤◌, List, length, bit_xor, slice_index, slice_set};
+ghost use Rattle.std.specs.Ordering.{nat_cmp};
 ghost use Rattle.rules.specs.Values.{bit};
-ghost use Rattle.words.specs.Numbers.{num, words_at, masked, order_of};
+ghost use Rattle.words.specs.Numbers.{num, words_at, under_mask};
+ghost use Rattle.words.specs.Reading.{Reads};
 
-#[derive(Clone, Copy)]
-pub enum Order {
-    Less,
-    Same,
-    More,
+use std::cmp::Ordering;
+
+// The order of the k words that `left` and `right` read: the last that differ decide.
+fn order<L: Fn(usize) -> u64, R: Fn(usize) -> u64>(left: L, right: R, k: usize) -> Ordering
+    requires { (at : ℕ) → at < k → L.pre left at × R.pre right at }
+    ensures { (xs ys : List ℕ) → Reads (L.post left) k xs → Reads (R.post right) k ys → result ≡ nat_cmp (num xs) (num ys) }
+{
+    for at in (0..k).rev() {
+        let order = left(at).cmp(&right(at));
+        if order.is_ne() {
+            return order;
+        }
+    }
+    Ordering::Equal
 }
 
 // The order of two sets of `words`, each under its mask: the words at i under those at a, the words at j under those at b.
@@ -19,46 +30,27 @@ pub fn compare(
     a: usize,
     b: usize,
     w: usize,
-) -> Order
+) -> Ordering
     requires { (i + w ≤ length words.now) × (j + w ≤ length words.now) × (a + w ≤ length masks.now) × (b + w ≤ length masks.now) }
-    ensures { result ≡ order_of (num (masked (words_at words.now i w) (words_at masks.now a w))) (num (masked (words_at words.now j w) (words_at masks.now b w))) }
+    ensures { result ≡ nat_cmp (under_mask words.now i masks.now a w) (under_mask words.now j masks.now b w) }
 {
-    let mut k = w;
-    while k > 0 {
-        k -= 1;
-        let x = words[i + k] ^ masks[a + k];
-        let y = words[j + k] ^ masks[b + k];
-        if x < y {
-            return Order::Less;
-        }
-        if y < x {
-            return Order::More;
-        }
-    }
-    Order::Same
+    order(
+        |k| words[i + k] ^ masks[a + k],
+        |k| words[j + k] ^ masks[b + k],
+        w,
+    )
 }
 
 // The order of the k words at i of `words` and those at j of `others`.
-pub fn compare_plain(words: &[u64], i: usize, others: &[u64], j: usize, k: usize) -> Order
+pub fn compare_plain(words: &[u64], i: usize, others: &[u64], j: usize, k: usize) -> Ordering
     requires { (i + k ≤ length words.now) × (j + k ≤ length others.now) }
-    ensures { result ≡ order_of (num (words_at words.now i k)) (num (words_at others.now j k)) }
+    ensures { result ≡ nat_cmp (num (words_at words.now i k)) (num (words_at others.now j k)) }
 {
-    let mut left = k;
-    while left > 0 {
-        left -= 1;
-        let x = words[i + left];
-        let y = others[j + left];
-        if x < y {
-            return Order::Less;
-        }
-        if y < x {
-            return Order::More;
-        }
-    }
-    Order::Same
+    order(|at| words[i + at], |at| others[j + at], k)
 }
 
-// 1 where the set at word `at` holds v, else 0.
+// 1 where the set at word `at` holds v, else 0: v's bit of the set's number.
+#[tactic(auto, using(crate::proofs::Numbers::bit_words))]
 pub fn holds(words: &[u64], at: usize, w: usize, v: usize) -> usize
     requires { (at + w ≤ length words.now) × (v < 64 * w) }
     ensures { result ≡ bit (num (words_at words.now at w)) v }

@@ -1,26 +1,6 @@
 // Writing a term.
-ghost use Rattle.std.specs.Prelude.{◌≡◌, ◌+◌, ◌<◌, ◌≤◌, ◌∷◌, ◌++◌, length, take, drop};
-ghost use Rattle.words.specs.Numbers.{words_at, masked};
-
-// Writes the w words at h under the mask at a to `target` at t.
-fn write_set(
-    words: &[u64],
-    h: usize,
-    masks: &[u64],
-    a: usize,
-    w: usize,
-    target: &mut [u64],
-    t: usize,
-)
-    requires { (h + w ≤ length words.now) × (a + w ≤ length masks.now) × (t + w ≤ length target.old) }
-    ensures { target.new ≡ take t target.old ++ masked (words_at words.now h w) (words_at masks.now a w) ++ drop (t + w) target.old }
-{
-    let mut k = 0;
-    while k < w {
-        target[t + k] = words[h + k] ^ masks[a + k];
-        k += 1;
-    }
-}
+ghost use Rattle.std.specs.Prelude.{◌≡◌, ◌+◌, ◌≤◌, ◌∷◌, ◌++◌, length, take, drop};
+ghost use Rattle.words.specs.Numbers.{num, words_at, masked, under_mask};
 
 // Writes a term at word t of `target`: the coefficient c, and the set at h under the mask at a.
 pub fn write(
@@ -34,21 +14,21 @@ pub fn write(
     c: u64,
 )
     requires { (h + w ≤ length words.now) × (a + w ≤ length masks.now) × (t + (w + 1) ≤ length target.old) }
-    ensures { target.new ≡ take t target.old ++ ((c ∷ masked (words_at words.now h w) (words_at masks.now a w)) ++ drop (t + (w + 1)) target.old) }
+    ensures { (target.new ≡ take t target.old ++ ((c ∷ masked (words_at words.now h w) (words_at masks.now a w)) ++ drop (t + (w + 1)) target.old))
+        × (num (masked (words_at words.now h w) (words_at masks.now a w)) ≡ under_mask words.now h masks.now a w) }
 {
     target[t] = c;
-    write_set(words, h, masks, a, w, target, t + 1);
+    for k in 0..w {
+        target[t + 1 + k] = words[h + k] ^ masks[a + k];
+    }
 }
 
 // Writes a term at word t: the coefficient c, and the set that stands further behind, at h.
+#[tactic(auto, using(crate::proofs::Writing::carry_term))]
 pub fn carry(words: &mut [u64], h: usize, w: usize, t: usize, c: u64)
     requires { (t + (w + 1) ≤ h) × (h + w ≤ length words.old) }
     ensures { words.new ≡ take t words.old ++ ((c ∷ words_at words.old h w) ++ drop (t + (w + 1)) words.old) }
 {
     words[t] = c;
-    let mut k = 0;
-    while k < w {
-        words[t + 1 + k] = words[h + k];
-        k += 1;
-    }
+    words.copy_within(h..h + w, t + 1);
 }

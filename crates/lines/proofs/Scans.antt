@@ -1,29 +1,16 @@
--- What a function's answer says of the scan that it stands for.
+-- Fields and lines of a text, by the one that is read next.
 use mathlib.Core.Path.{◌≡◌, refl, ap, sym, ◌∙◌}
 use mathlib.Core.Logic.{⊎_elim}
-use mathlib.Core.List.{List, [], ◌∷◌}
-use mathlib.Core.Bool.{cond, ◌&&◌}
-use Prim.Native.Nat.{ℕ, zero, suc, ◌+◌, ◌*◌, ◌<◌, ◌≤◌}
+use mathlib.Core.List.{List, [], ◌∷◌, ◌++◌, append_assoc}
+use Prim.Native.Nat.{ℕ, zero, suc, ◌+◌, ◌<◌, ◌≤◌}
 use native.Mathlib.Nat.{eq-or-lt_of_le}
 use native.Mathlib.Numerals.{add-one}
 use native.Mathlib.Omega.{arith}
-use lib.Dec.{eqb}
-use Rattle.rules.specs.Netlist.{gate, gate_sound}
-use Rattle.rules.specs.Text.{space, line_feed}
-use Rattle.rules.specs.Reading.{Scan, found, missing, with_numbers, and_then, word, field, fields, tested, gate_line, lines}
-use Rattle.rules.specs.declared.counts.Counts.{Counts}
-use Rattle.lines.specs.Found.{place_scan}
+use lib.ListN.{length, get_or, take, drop, set}
+use lib.Seq.{drop-cons}
+use Rattle.std.proofs.lemmas.Grind.{common_steps}
+use Rattle.rules.specs.Reading.{Scan, found, missing, with_numbers, and_then, field, fields, lines}
 use Rattle.lines.specs.Sections.{bare}
-use Rattle.lines.specs.declared.fields.Place.{Place}
-use Rattle.lines.specs.declared.fields.Place.TheVariants.{At, Missing}
-
--- the scan that a function's answer stands for, where the answer is known
-pub scanned : {A : Type 0} (scan : A → Scan) {r q : A} {s : Scan} → scan r ≡ s → r ≡ q → s ≡ scan q
-scanned scan e g = sym e ∙ ap scan g
-
--- what is found is not missing
-pub found_missing : {numbers text : List ℕ} → found numbers text ≡ missing → ⊥
-found_missing e = let z : ◌≡◌ {A = ℕ} 0 1 = cc in omega arith
 
 -- no numbers in front change nothing
 pub with_none : (s : Scan) → with_numbers [] s ≡ s
@@ -31,53 +18,76 @@ unfolding with_numbers
 with_none (found numbers text) = refl
 with_none missing = refl
 
--- a place has no numbers
-pub bare_place : (text : List ℕ) (r : Place) → bare (place_scan text r) ≡ place_scan text r
-unfolding place_scan bare
-bare_place text (At at) = refl
-bare_place text Missing = refl
+-- numbers in front of numbers
+with_both : (xs ys : List ℕ) (s : Scan) → with_numbers xs (with_numbers ys s) ≡ with_numbers (xs ++ ys) s
+unfolding with_numbers
+with_both xs ys (found numbers text) = simp append_assoc
+with_both xs ys missing = refl
 
--- the last byte of a word
-pub last_byte : (text : List ℕ) (r : Place) → and_then (place_scan text r) (word []) ≡ place_scan text r
-unfolding place_scan and_then with_numbers word
-last_byte text (At at) = refl
-last_byte text Missing = refl
+-- as many fields as bytes are given: the one at k is read next
+module _ (ends numbers text rest : List ℕ) (k : ℕ) (here : k < length ends)
+    (before : fields ends text ≡ with_numbers (take k numbers) (fields (drop k ends) rest)) where
+  -- it is missing
+  pub fields_stop : field (get_or ends k 0) rest ≡ missing → fields ends text ≡ missing
+  unfolding fields and_then with_numbers
+  fields_stop e = before ∙ rw (drop-cons ends k 0 here, e)
 
--- the three numbers of a gate's line are tested
-pub gate_tested : (c : Counts) (k : ℕ) (t₀ : List ℕ) {t₁ t₂ t₃ : List ℕ} {lhs x y : ℕ}
-    → field space t₀ ≡ found (lhs ∷ []) t₁ → field space t₁ ≡ found (x ∷ []) t₂ → field line_feed t₂ ≡ found (y ∷ []) t₃
-    → gate_line c k t₀ ≡ cond (eqb lhs (2 * gate c k) && gate_sound (gate c k) x y) (found (x ∷ y ∷ []) t₃) missing
-unfolding gate_line tested fields and_then with_numbers
-gate_tested c k t₀ e f g = rw (e, f, g)
+  -- it is there
+  pub fields_more : (x : ℕ) (later : List ℕ) → length numbers ≡ length ends → field (get_or ends k 0) rest ≡ found (x ∷ []) later
+      → fields ends text ≡ with_numbers (take (k + 1) (set numbers k x)) (fields (drop (k + 1) ends) later)
+  unfolding fields and_then
+  fields_more x later same e =
+      let more : take (k + 1) (set numbers k x) ≡ take k numbers ++ x ∷ [] = grind (arith, common_steps) in
+      before ∙ rw (drop-cons ends k 0 here, e, with_both, more, add-one)
 
--- so many lines of a text
+-- all of them were read
+pub fields_all : (ends numbers text rest : List ℕ) (k : ℕ) → k ≡ length ends → length numbers ≡ length ends
+    → fields ends text ≡ with_numbers (take k numbers) (fields (drop k ends) rest) → fields ends text ≡ found numbers rest
+unfolding fields with_numbers
+fields_all ends numbers text rest k all same before =
+    let none : drop k ends ≡ [] = grind (arith, common_steps) in
+    before ∙ rw none (grind (arith, common_steps))
+
+-- what fields find, by the one that is read next
+pub ruleset reads = (with_none, fields_stop, fields_more, fields_all)
+
+-- so many lines of a text, the k-th read by its rule
 module _ (line : ℕ → List ℕ → Scan) (text : List ℕ) where
-  -- one line more: what it gives at the text behind the others
-  pub lines_more : (k : ℕ) {later : List ℕ} {s : Scan} → bare (lines k line text) ≡ found [] later → bare (line k later) ≡ s
-      → bare (lines (k + 1) line text) ≡ s
-  unfolding bare lines and_then with_numbers
-  lines_more k {later} {s} e g = rw add-one (go (lines k line text) e)
-    where
-      same : (numbers : List ℕ) (next : Scan) → bare (with_numbers numbers next) ≡ bare next
-      same numbers (found more rest) = refl
-      same numbers missing = refl
+  -- none are right
+  pub lines_none : bare (lines 0 line text) ≡ found [] text
+  unfolding bare lines
+  lines_none = refl
 
-      go : (before : Scan) → bare before ≡ found [] later → bare (and_then before (line k)) ≡ s
-      go (found numbers rest) e =
-          let r : rest ≡ later = cc in
-          rw r (same numbers (line k later) ∙ g)
-      go missing e = absurd (found_missing (sym e))
+  module _ (k : ℕ) (rest : List ℕ) (before : bare (lines k line text) ≡ found [] rest) where
+    -- the first k are right, and so is the next: the text behind it
+    pub lines_more : (numbers later : List ℕ) → found numbers later ≡ line k rest → bare (lines (k + 1) line text) ≡ found [] later
+    unfolding bare lines and_then with_numbers
+    lines_more numbers later e = rw add-one (go (lines k line text) before)
+      where
+        go : (s : Scan) → bare s ≡ found [] rest → bare (and_then s (line k)) ≡ found [] later
+        go (found first text) b =
+            let same : text ≡ rest = cc in
+            rw (same, ← e)
+        go missing b = cc
 
-  -- a line that is wrong makes all wrong
-  pub lines_stop : (k n : ℕ) → k ≤ n → bare (lines k line text) ≡ missing → bare (lines n line text) ≡ missing
-  unfolding bare lines and_then
-  lines_stop k zero l e = let none : k ≡ 0 = omega arith in rw none at e
-  lines_stop k (suc n) l e =
-      ⊎_elim
-      (λ (same : k ≡ suc n). rw same at e)
-      (λ (below : k < suc n). go (lines n line text) (lines_stop k n (omega arith) e))
-      (eq-or-lt_of_le l)
-    where
-      go : (before : Scan) → bare before ≡ missing → bare (and_then before (line n)) ≡ missing
-      go (found numbers rest) e = absurd (found_missing e)
-      go missing e = refl
+    -- the next is wrong, and so are all
+    pub lines_stop : (n : ℕ) → k < n → missing ≡ line k rest → missing ≡ bare (lines n line text)
+    unfolding bare lines and_then with_numbers
+    lines_stop n l e = ap bare (sym (all n l))
+      where
+        go : (s : Scan) → bare s ≡ found [] rest → and_then s (line k) ≡ missing
+        go (found first text) b =
+            let same : text ≡ rest = cc in
+            rw (same, ← e)
+        go missing b = refl
+
+        all : (n : ℕ) → k < n → lines n line text ≡ missing
+        all zero l = absurd (omega arith)
+        all (suc n) l =
+            ⊎_elim
+            (λ (same : k ≡ n). rw (← same) (go (lines k line text) before))
+            (λ (below : k < n). rw (all n below))
+            (let l : k ≤ n = omega arith in eq-or-lt_of_le l)
+
+-- what lines are found, by the one that is read next
+pub ruleset passes = (lines_none, lines_more, lines_stop)

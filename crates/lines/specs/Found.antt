@@ -1,29 +1,31 @@
--- What was found at a place of a text, as the scan of the rules.
-use Rattle.std.specs.Prelude.{cond, List, [], ◌∷◌, ℕ, ◌+◌, leb, length, drop}
+-- What a text begins with, as the scan of the rules.
+use Rattle.std.specs.Prelude.{cond, List, [], ◌∷◌, ℕ, leb, length, drop, Option, Some, None}
+use Rattle.std.specs.Borrow.{Bor}
 use Rattle.rules.specs.Reading.{Scan, found, missing, leading_digits, value_from, well_written}
-use Rattle.lines.specs.declared.fields.Place.{Place}
-use Rattle.lines.specs.declared.fields.Place.TheVariants.{At, Missing as PlaceMissing}
-use Rattle.lines.specs.declared.fields.Value.{Value}
-use Rattle.lines.specs.declared.fields.Value.TheVariants.{Read, Missing as ValueMissing}
 
--- a place: nothing was read on the way there
-unfoldable pub place_scan : List ℕ → Place → Scan
-place_scan text (At at) = found [] (drop at text)
-place_scan text PlaceMissing = missing
+-- the text behind what was passed
+abbrev pub rest_scan : Option (Bor (List ℕ)) → Scan
+rest_scan (Some rest) = found [] rest.now
+rest_scan None = missing
 
--- one number and the place behind it
-unfoldable pub value_scan : List ℕ → Value → Scan
-value_scan text (Read value at) = found (value ∷ []) (drop at text)
-value_scan text ValueMissing = missing
+-- one number and the text behind it
+abbrev pub value_scan : Option (ℕ × Bor (List ℕ)) → Scan
+value_scan (Some (value, rest)) = found (value ∷ []) rest.now
+value_scan None = missing
 
--- the number that the digits at a place write, where they are at most four
-unfoldable pub digits_at : List ℕ → ℕ → Value
-digits_at text at =
-    let digits = leading_digits (drop at text) in
-    cond (leb (length digits) 4) (Read (value_from 0 digits) (at + length digits)) ValueMissing
+-- some numbers and the text behind them
+abbrev pub numbers_scan : Option (List ℕ × Bor (List ℕ)) → Scan
+numbers_scan (Some (numbers, rest)) = found numbers rest.now
+numbers_scan None = missing
 
--- the number at a place, where it is well written
-unfoldable pub number_at : List ℕ → ℕ → Value
-number_at text at =
-    let digits = leading_digits (drop at text) in
-    cond (well_written digits) (Read (value_from 0 digits) (at + length digits)) ValueMissing
+-- the number that the leading digits write, and how many they are, where they are at most four
+unfoldable pub digits_of : List ℕ → Option (ℕ × ℕ)
+digits_of text =
+    let digits = leading_digits text in
+    cond (leb (length digits) 4) (Some (value_from 0 digits, length digits)) None
+
+-- the number that a text begins with, where it is well written, and the text behind it
+unfoldable pub number_of : List ℕ → Scan
+number_of text =
+    let digits = leading_digits text in
+    cond (well_written digits) (found (value_from 0 digits ∷ []) (drop (length digits) text)) missing

@@ -1,3 +1,3 @@
--- What the functions that read the lines of a text find, said with the definitions of the rules.
+-- What the functions that read a text find, said with the definitions of the rules.
 pub mod Found
 pub mod Sections

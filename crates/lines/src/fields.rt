@@ -1,93 +1,71 @@
-// What stands at a place of a text: a byte that is asked for, or a number and the byte behind it.
-// A place past the end is one where nothing stands.
-ghost use Rattle.std.specs.Prelude.{◌≡◌, drop};
-ghost use Rattle.rules.specs.Reading.{behind, field};
-ghost use Rattle.lines.specs.Found.{place_scan, value_scan, digits_at, number_at};
+// What a text begins with: a byte that is asked for, or numbers, each with the byte behind it. Each answer has the text
+// behind what was read.
+ghost use Rattle.std.specs.Prelude.{◌≡◌};
+ghost use Rattle.rules.specs.Reading.{behind, field, fields};
+ghost use Rattle.lines.specs.Found.{rest_scan, value_scan, numbers_scan, digits_of, number_of};
 
-// The place behind what was asked for.
-#[derive(Clone, Copy)]
-pub enum Place {
-    At(usize),
-    Missing,
-}
-
-// A number, and the place behind it.
-#[derive(Clone, Copy)]
-pub enum Value {
-    Read(u32, usize),
-    Missing,
-}
-
-// The place behind the byte x, where x stands here.
-pub fn behind(text: &[u8], at: usize, x: u8) -> Place
-    ensures { place_scan text.now result ≡ behind x (drop at text.now) }
+// The text behind the byte x, where it begins with x.
+#[tactic(auto, unfolding(rules::specs::Reading::behind))]
+pub fn behind(text: &[u8], x: u8) -> Option<&[u8]>
+    ensures { rest_scan result ≡ behind x text.now }
 {
-    if text.len() <= at {
-        return Place::Missing;
-    }
-    let y = text[at];
-    if x == y {
-        Place::At(at + 1)
-    } else {
-        Place::Missing
+    match text {
+        [first, rest @ ..] if *first == x => Some(rest),
+        _ => None,
     }
 }
 
-// Up to four digits, which may be none. A fifth ends the reading at once.
-#[tactic(auto, using(crate::proofs::Digits::passed_many))]
-pub fn digits(text: &[u8], at: usize) -> Value
-    ensures { result ≡ digits_at text.now at }
+// Up to four digits, which may be none: their number, and how many they are. A fifth ends the reading at once.
+#[tactic(auto, using(crate::proofs::Digits::passed), unfolding(rules::specs::Reading::digit))]
+pub fn digits(text: &[u8]) -> Option<(u32, usize)>
+    ensures { result ≡ digits_of text.now }
 {
-    let mut value: u32 = 0;
-    let mut next = at;
-    while next < text.len() {
-        let x = text[next];
-        if x < b'0' {
-            break;
+    let mut value = 0;
+    for (count, &x) in text.iter().enumerate() {
+        if !x.is_ascii_digit() {
+            return Some((value, count));
         }
-        if b'9' < x {
-            break;
+        if count == 4 {
+            return None;
         }
-        if next - at == 4 {
-            return Value::Missing;
-        }
-        value = 10 * value + (x - b'0') as u32;
-        next += 1;
+        value = 10 * value + u32::from(x - b'0');
     }
-    Value::Read(value, next)
+    Some((value, text.len()))
 }
 
 // One to four digits, with a leading zero only where it is the one digit.
-#[tactic(auto, using(crate::proofs::Digits::number_one, crate::proofs::Digits::number_zero))]
-pub fn number(text: &[u8], at: usize) -> Value
-    ensures { result ≡ number_at text.now at }
+#[tactic(auto, using(crate::proofs::Digits::numbers))]
+pub fn number(text: &[u8]) -> Option<(u32, &[u8])>
+    ensures { value_scan result ≡ number_of text.now }
 {
-    let Value::Read(value, next) = digits(text, at) else {
-        return Value::Missing;
-    };
-    if next == at {
-        return Value::Missing;
-    }
-    let first = text[at];
-    if first != b'0' {
-        return Value::Read(value, next);
-    }
-    if next - at == 1 {
-        Value::Read(value, next)
-    } else {
-        Value::Missing
+    let (value, count) = digits(text)?;
+    let rest = &text[count..];
+    match count {
+        0 => None,
+        1 => Some((value, rest)),
+        _ if text[0] == b'0' => None,
+        _ => Some((value, rest)),
     }
 }
 
 // A number and the byte that must follow it.
-pub fn field(text: &[u8], at: usize, end: u8) -> Value
-    ensures { value_scan text.now result ≡ field end (drop at text.now) }
+#[tactic(auto, using(crate::proofs::Digits::field_of), unfolding(rules::specs::Reading::and_then, rules::specs::Reading::with_numbers))]
+pub fn field(text: &[u8], end: u8) -> Option<(u32, &[u8])>
+    ensures { value_scan result ≡ field end text.now }
 {
-    let Value::Read(value, next) = number(text, at) else {
-        return Value::Missing;
-    };
-    match behind(text, next, end) {
-        Place::At(at) => Value::Read(value, at),
-        Place::Missing => Value::Missing,
+    let (value, rest) = number(text)?;
+    Some((value, behind(rest, end)?))
+}
+
+// As many numbers as bytes are given, each followed by its byte.
+#[tactic(auto, using(crate::proofs::Scans::reads))]
+pub fn fields<'a, const N: usize>(text: &'a [u8], ends: &[u8; N]) -> Option<([u32; N], &'a [u8])>
+    ensures { numbers_scan result ≡ fields ends.now text.now }
+{
+    let mut numbers = [0; N];
+    let mut rest = text;
+    for k in 0..N {
+        (numbers[k], rest) = field(rest, ends[k])?;
     }
+    Some((numbers, rest))
 }

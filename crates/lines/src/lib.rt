@@ -1,4 +1,4 @@
-// The lines of a netlist text, read at a place: what stands there, and the place behind it.
+// The lines of a netlist text: what a text begins with, and the text behind it.
 #![tactic(auto)]
 
 pub mod fields; // fields.rt: bytes, digits, and a number with the byte behind it

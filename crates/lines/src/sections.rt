@@ -1,74 +1,30 @@
-// The lines of a text, read one by one at a place. Sums go by u64, where no literal of a u32 variable wraps.
-ghost use Rattle.std.specs.Prelude.{◌≡◌, drop};
+// The header of a text, and the lines of its sections. Sums go by u64, where no literal of a u32 variable wraps.
+ghost use Rattle.std.specs.Prelude.{◌≡◌, ◌<◌, ◌^◌, ℕ, List};
+ghost use Rattle.std.proofs.Common.{lit<};
 ghost use Rattle.rules.specs.Text.{header_word};
-ghost use Rattle.rules.specs.Reading.{word, input_line, output_line, gate_line, lines};
-ghost use Rattle.lines.specs.Found.{place_scan, value_scan};
-ghost use Rattle.lines.specs.Sections.{Headed, gate_scan, bare, section_line};
+ghost use Rattle.rules.specs.Reading.{Scan, word, header_line, input_line, output_line, gate_line, lines};
+ghost use Rattle.rules.specs.declared.records.RecordKind.TheVariants.{Gates};
+ghost use Rattle.lines.specs.Found.{rest_scan, numbers_scan};
+ghost use Rattle.lines.specs.Sections.{heading_scan, heading_records, bare};
 
-use crate::fields::{Place, Value, behind, field};
+use crate::fields::fields;
 use rules::counts::Counts;
 use rules::records::RecordKind;
 
-// The header's five numbers, with the kind of record, and the place behind it.
-#[derive(Clone, Copy)]
-pub enum Heading {
-    Read(Counts, usize),
-    Missing,
-}
-
-// The two literals of a gate, and the place behind its line.
-#[derive(Clone, Copy)]
-pub enum Gate {
-    Read(u32, u32, usize),
-    Missing,
-}
-
-// The sections of lines that follow the header.
-#[derive(Clone, Copy)]
-pub enum Section {
-    Inputs,
-    Outputs,
-    Gates,
-}
-
 // The bytes of `aag ` at the start.
-pub fn word(text: &[u8]) -> Place
-    ensures { place_scan text.now result ≡ word header_word text.now }
+pub fn word(text: &[u8]) -> Option<&[u8]>
+    ensures { rest_scan result ≡ word header_word text.now }
 {
-    let Place::At(first) = behind(text, 0, b'a') else {
-        return Place::Missing;
-    };
-    let Place::At(second) = behind(text, first, b'a') else {
-        return Place::Missing;
-    };
-    let Place::At(third) = behind(text, second, b'g') else {
-        return Place::Missing;
-    };
-    behind(text, third, b' ')
+    text.strip_prefix(b"aag ")
 }
 
-// The header line. A text has AND gates.
-pub fn header(text: &[u8]) -> Heading
-    ensures { Headed text.now result }
+// The header line: the five counts. A text has AND gates.
+#[tactic(auto, unfolding(rules::specs::Reading::header_line, rules::specs::Reading::and_then, rules::specs::Reading::with_numbers))]
+pub fn header(text: &[u8]) -> Option<(Counts, &[u8])>
+    ensures numbers { heading_scan result ≡ header_line text.now }
+    ensures records { heading_records result ≡ Gates }
 {
-    let Place::At(start) = word(text) else {
-        return Heading::Missing;
-    };
-    let Value::Read(m, first) = field(text, start, b' ') else {
-        return Heading::Missing;
-    };
-    let Value::Read(i, second) = field(text, first, b' ') else {
-        return Heading::Missing;
-    };
-    let Value::Read(l, third) = field(text, second, b' ') else {
-        return Heading::Missing;
-    };
-    let Value::Read(o, fourth) = field(text, third, b' ') else {
-        return Heading::Missing;
-    };
-    let Value::Read(a, end) = field(text, fourth, b'\n') else {
-        return Heading::Missing;
-    };
+    let ([m, i, l, o, a], rest) = fields(word(text)?, b"    \n")?;
     let records = RecordKind::Gates;
     let counts = Counts {
         m,
@@ -78,98 +34,91 @@ pub fn header(text: &[u8]) -> Heading
         a,
         records,
     };
-    Heading::Read(counts, end)
+    Some((counts, rest))
 }
 
-// The k-th input line, from 0: the literal 2(k + 1).
-pub fn input_line(text: &[u8], at: usize, k: u32) -> Place
-    ensures { place_scan text.now result ≡ input_line k (drop at text.now) }
-{
-    let Value::Read(value, next) = field(text, at, b'\n') else {
-        return Place::Missing;
-    };
-    let literal = value as u64;
-    let wanted = 2 * (k as u64 + 1);
-    if literal == wanted {
-        Place::At(next)
-    } else {
-        Place::Missing
-    }
+// The lines of a section. The k-th, from 0, has a rule: the numbers that it gives, and the text behind it.
+pub trait Lines<const N: usize> {
+    ghost rule: { Self → ℕ → List ℕ → Scan };
+
+    fn read<'a>(&self, text: &'a [u8], k: u32) -> Option<([u32; N], &'a [u8])>
+        ensures { numbers_scan result ≡ rule self.now k text.now };
+
+    // So few numbers fit memory.
+    ghost few: { N < 2 ^ 61 };
 }
 
-// An output line, whichever it is: a literal up to 2M + 1.
-pub fn output_line(text: &[u8], at: usize, c: Counts) -> Value
-    ensures { value_scan text.now result ≡ output_line c 0 (drop at text.now) }
-{
-    let Value::Read(value, next) = field(text, at, b'\n') else {
-        return Value::Missing;
-    };
-    let literal = value as u64;
-    let most = 2 * (c.m as u64) + 1;
-    if literal <= most {
-        Value::Read(value, next)
-    } else {
-        Value::Missing
+// Input lines: each is the literal 2(k + 1).
+#[derive(Clone, Copy)]
+pub struct InputLines;
+
+impl Lines<0> for InputLines {
+    ghost rule = { λ _. input_line };
+
+    ghost few = { lit< tt };
+
+    #[tactic(auto, unfolding(rules::specs::Reading::input_line, rules::specs::Reading::tested))]
+    fn read<'a>(&self, text: &'a [u8], k: u32) -> Option<([u32; 0], &'a [u8])>
+        ensures { numbers_scan result ≡ input_line k text.now }
+    {
+        let ([literal], rest) = fields(text, b"\n")?;
+        (literal as u64 == 2 * (k as u64 + 1)).then_some(([], rest))
     }
 }
 
-// The k-th gate line, from 0: its own literal, and two that fall.
-#[tactic(auto, using(std::proofs::lemmas::Bool::Decides::nat_tests), unfolding(crate::specs::Sections::gate_scan, crate::specs::Found::value_scan, rules::specs::Netlist::gate, rules::specs::Netlist::gate_sound, rules::specs::Reading::gate_line, rules::specs::Reading::tested, rules::specs::Reading::fields, rules::specs::Reading::and_then, rules::specs::Reading::with_numbers))]
-pub fn gate_line(text: &[u8], at: usize, c: Counts, k: u32) -> Gate
-    ensures { gate_scan text.now result ≡ gate_line c k (drop at text.now) }
-{
-    let Value::Read(lhs, first) = field(text, at, b' ') else {
-        return Gate::Missing;
-    };
-    let Value::Read(rhs0, second) = field(text, first, b' ') else {
-        return Gate::Missing;
-    };
-    let Value::Read(rhs1, end) = field(text, second, b'\n') else {
-        return Gate::Missing;
-    };
-    let literal = lhs as u64;
-    let wanted = 2 * (c.i as u64 + 1 + k as u64);
-    if literal != wanted {
-        return Gate::Missing;
-    }
-    if lhs <= rhs0 {
-        return Gate::Missing;
-    }
-    if rhs0 < rhs1 {
-        return Gate::Missing;
-    }
-    Gate::Read(rhs0, rhs1, end)
-}
+// Output lines: each is a literal up to 2M + 1.
+#[derive(Clone, Copy)]
+pub struct OutputLines(pub Counts);
 
-// The place behind the k-th line of a section, where that line is right.
-pub fn passed(text: &[u8], at: usize, c: Counts, section: Section, k: u32) -> Place
-    ensures { place_scan text.now result ≡ bare (section_line c section k (drop at text.now)) }
-{
-    match section {
-        Section::Inputs => input_line(text, at, k),
-        Section::Outputs => match output_line(text, at, c) {
-            Value::Read(_, next) => Place::At(next),
-            Value::Missing => Place::Missing,
-        },
-        Section::Gates => match gate_line(text, at, c, k) {
-            Gate::Read(_, _, next) => Place::At(next),
-            Gate::Missing => Place::Missing,
-        },
+impl Lines<1> for OutputLines {
+    ghost rule = { λ s. output_line s.0 };
+
+    ghost few = { lit< tt };
+
+    #[tactic(auto, unfolding(rules::specs::Netlist::output_sound, rules::specs::Reading::output_line, rules::specs::Reading::tested))]
+    fn read<'a>(&self, text: &'a [u8], k: u32) -> Option<([u32; 1], &'a [u8])>
+        ensures { numbers_scan result ≡ output_line self.now.0 k text.now }
+    {
+        let ([literal], rest) = fields(text, b"\n")?;
+        (literal as u64 <= 2 * self.0.m as u64 + 1).then_some(([literal], rest))
     }
 }
 
-// The place behind so many lines of a section, where all of them are right.
-pub fn pass(text: &[u8], at: usize, c: Counts, section: Section, count: u32) -> Place
-    ensures { place_scan text.now result ≡ bare (lines count (section_line c section) (drop at text.now)) }
+// Gate lines: each is its own literal, and two that fall.
+#[derive(Clone, Copy)]
+pub struct GateLines(pub Counts);
+
+impl Lines<2> for GateLines {
+    ghost rule = { λ s. gate_line s.0 };
+
+    ghost few = { lit< tt };
+
+    #[tactic(auto, unfolding(rules::specs::Netlist::gate, rules::specs::Netlist::gate_sound, rules::specs::Reading::gate_line, rules::specs::Reading::tested))]
+    fn read<'a>(&self, text: &'a [u8], k: u32) -> Option<([u32; 2], &'a [u8])>
+        ensures { numbers_scan result ≡ gate_line self.now.0 k text.now }
+    {
+        let ([lhs, rhs0, rhs1], rest) = fields(text, b"  \n")?;
+        let own = lhs as u64 == 2 * (self.0.i as u64 + 1 + k as u64);
+        (own && rhs0 < lhs && rhs1 <= rhs0).then_some(([rhs0, rhs1], rest))
+    }
+}
+
+// The text behind so many lines, where all of them are right.
+#[tactic(auto, using(crate::proofs::Scans::passes))]
+pub fn pass<'a, const N: usize, L: Lines<N>>(
+    section: &L,
+    text: &'a [u8],
+    count: u32,
+) -> Option<&'a [u8]>
+    ensures { rest_scan result ≡ bare (lines count (L.rule section.now) text.now) }
 {
-    let mut next = at;
-    let mut k: u32 = 0;
-    while k < count {
-        let Place::At(behind) = passed(text, next, c, section, k) else {
-            return Place::Missing;
+    let mut rest = text;
+    for k in 0..count {
+        // `?` on a value that holds an array gets no proof.
+        let Some((_, behind)) = section.read(rest, k) else {
+            return None;
         };
-        next = behind;
-        k += 1;
+        rest = behind;
     }
-    Place::At(next)
+    Some(rest)
 }

@@ -1,4 +1,4 @@
 -- The laws that the proofs of the functions cite.
-pub mod Stores
 pub mod Readings
+pub mod Stores
 pub mod Passes

@@ -7,59 +7,43 @@ mod tables; // tables.rt: the second pass
 ghost use Rattle.rules.specs.Reading.{ReadAs};
 ghost use Rattle.aiger.specs.Checked.{Checked};
 
-use crate::tables::{store_gates, store_outputs};
-use lines::fields::Place;
-use lines::sections::{Heading, Section, header, pass};
+use crate::tables::store;
+use lines::sections::{GateLines, InputLines, OutputLines, header, pass};
 use netlist::counts::{counts_wrong, table_short};
-use rules::answers::Text;
 use rules::counts::Counts;
+use rules::refusals::Refusal;
 
-// What the first pass finds: a right text, its counts and the place of its output lines, or the refusal.
-#[derive(Clone, Copy)]
-enum Outcome {
-    Right(Counts, usize),
-    Refused(u32),
-}
-
-// The first pass, for a table of so many words: the refusals in the order of the text.
-#[tactic(auto, using(crate::proofs::Readings::counts_back, crate::proofs::Readings::byte_behind, crate::proofs::Readings::bare_both), unfolding(rules::specs::Reading::reading, rules::specs::Reading::header_read, rules::specs::Reading::counts_read, rules::specs::Reading::inputs_read, rules::specs::Reading::outputs_read, rules::specs::Reading::gates_read, rules::specs::Says::first, lines::specs::Sections::heading_scan, lines::specs::Sections::heading_records, lines::specs::Sections::section_line, lines::specs::Found::place_scan))]
-fn checked(text: &[u8], words: usize) -> Outcome
+// The first pass, for a table of so many words: the counts and the text from the output lines on, or the first refusal.
+fn checked(text: &[u8], words: usize) -> Result<(Counts, &[u8]), Refusal>
     ensures { Checked text.now words result }
 {
-    let Heading::Read(counts, inputs) = header(text) else {
-        return Outcome::Refused(1);
-    };
+    let (counts, inputs) = header(text).ok_or(Refusal::Header)?;
     if counts_wrong(counts) {
-        return Outcome::Refused(2);
+        return Err(Refusal::CountOutside);
     }
     if table_short(counts, words) {
-        return Outcome::Refused(3);
+        return Err(Refusal::ShortTable);
     }
-    let Place::At(outputs) = pass(text, inputs, counts, Section::Inputs, counts.i) else {
-        return Outcome::Refused(4);
-    };
-    let Place::At(gates) = pass(text, outputs, counts, Section::Outputs, counts.o) else {
-        return Outcome::Refused(5);
-    };
-    let Place::At(end) = pass(text, gates, counts, Section::Gates, counts.a) else {
-        return Outcome::Refused(6);
-    };
-    if end < text.len() {
-        return Outcome::Refused(7);
+    let outputs = pass(&InputLines, inputs, counts.i).ok_or(Refusal::InputLine)?;
+    let gates = pass(&OutputLines(counts), outputs, counts.o).ok_or(Refusal::OutputLine)?;
+    let end = pass(&GateLines(counts), gates, counts.a).ok_or(Refusal::GateLine)?;
+    if !end.is_empty() {
+        return Err(Refusal::BytesBehind);
     }
-    Outcome::Right(counts, outputs)
+    Ok((counts, outputs))
 }
 
 // Reads the text. Where it is refused no word of the table changes, and words past O + 2A never do.
-pub fn read(text: &[u8], table: &mut [u32]) -> Text
+pub fn read(text: &[u8], table: &mut [u32]) -> Result<Counts, Refusal>
     ensures { ReadAs text.now table.old result table.new }
 {
-    match checked(text, table.len()) {
-        Outcome::Refused(number) => Text::Refused(number),
-        Outcome::Right(counts, outputs) => {
-            let gates = store_outputs(text, outputs, counts, table);
-            store_gates(text, gates, counts, table);
-            Text::Read(counts)
-        }
-    }
+    let (counts, outputs) = checked(text, table.len())?;
+    let gates = store(&OutputLines(counts), outputs, counts.o, table);
+    store(
+        &GateLines(counts),
+        gates,
+        counts.a,
+        &mut table[counts.o as usize..],
+    );
+    Ok(counts)
 }

@@ -1,33 +1,28 @@
 -- `read` meets its contract, from what both passes ensure. Assumes nothing.
-use native.Mathlib.Omega.{arith}
-use lib.ListN.{length, drop}
-use Rattle.aiger.specs.Checked.{RightText}
-use Rattle.aiger.proofs.Passes.{finds, gates_room, read_refused, read_right}
+use Rattle.std.proofs.Common.{arith}
+use Rattle.std.proofs.lemmas.Grind.{common_steps}
+use Rattle.std.proofs.lemmas.List.{take_rest}
+use Rattle.aiger.proofs.Passes.{read_refused, right_room, read_right}
 use Rattle.aiger.proofs.read.Goals as goal
 
-pub store_outputs-gates-requires : goal.store_outputs-gates-requires
-store_outputs-gates-requires c =
-    let right : let a = c.args in RightText a.text.now (length a.table.now) c.in-Right.counts c.in-Right.outputs =
-    rw c.in-Right.is at c.checked.ensures in
-    let r = right in
-    (omega (arith, gates_room r), finds r.outputs_found)
+pub returns-in_err-counts : goal.returns-in_err-counts
+returns-in_err-counts c = read_refused _ _ _ _ c.from_residual.ensures c.in_err-counts.ensures
 
-pub store_gates-requires : goal.store_gates-requires
-store_gates-requires c =
-    let right : let a = c.args in RightText a.text.now (length a.table.now) c.in-Right.counts c.in-Right.outputs =
-    rw c.in-Right.is at c.checked.ensures in
-    let r = right in
-    let behind = (c.store_outputs-gates.ensures r.outputs r.rest r.outputs_found).behind in
-    (omega (arith, gates_room r, c.store_outputs-gates.auto.table), finds (rw behind at r.gates_found))
+pub store-gates-requires-clause-room : goal.store-gates-requires-clause-room
+store-gates-requires-clause-room c = omega (arith, right_room c.in_ok-counts.ensures)
 
-pub returns-in-Refused : goal.returns-in-Refused
-returns-in-Refused c =
-    let a = c.args in
-    read_refused a.text.now a.table.now c.in-Refused.number (rw c.in-Refused.is at c.checked.ensures)
+pub slice_bounds-store-count : goal.slice_bounds-store-count
+slice_bounds-store-count c = omega (arith, right_room c.in_ok-counts.ensures)
 
-pub returns-in-Right : goal.returns-in-Right
-returns-in-Right c =
-    let right : let a = c.args in RightText a.text.now (length a.table.now) c.in-Right.counts c.in-Right.outputs =
-    rw c.in-Right.is at c.checked.ensures in
-    let a = c.args in
-    read_right a.text.now a.table.now c.in-Right.counts c.in-Right.outputs c.store_outputs-gates.result (drop c.store_gates.result a.text.now) (right) c.store_outputs-gates.ensures c.store_gates.ensures
+pub store-requires-clause-room : goal.store-requires-clause-room
+store-requires-clause-room c = let h = right_room c.in_ok-counts.ensures in grind (arith, common_steps)
+
+pub slice_bounds-store-start : goal.slice_bounds-store-start
+slice_bounds-store-start c = omega (arith, right_room c.in_ok-counts.ensures)
+
+pub returns : goal.returns
+returns c =
+    let h = right_room c.in_ok-counts.ensures in
+    let part = take_rest c.store-gates.new.table c.in_ok-counts.counts.o in
+    read_right _ _ _ _ _ _ _ _ _ _ c.in_ok-counts.ensures c.store-gates.ensures c.store.ensures c.store-gates.auto.table part c.store.auto.table
+    (grind (arith, common_steps))

@@ -45,10 +45,6 @@ most_words c = mul-le-mul_right c.a (go c.records)
     go Gates = omega arith
     go Cells = omega arith
 
--- the words of a table whose records are of a known kind
-pub long_enough : {c : Counts} {table : List ℕ} {kind : RecordKind} → Fitting c table → c.records ≡ kind → c.o + record_words kind * c.a ≤ length table
-long_enough f e = rw e at (facts f).long
-
 module _ {c : Counts} {table : List ℕ} (s : Sound c table) where
   -- what check 8 leaves
   sound : SoundTable c table

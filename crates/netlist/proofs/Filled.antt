@@ -17,7 +17,7 @@ use Rattle.rules.specs.declared.records.Record.TheVariants.{Gate, Cell}
 use Rattle.rules.proofs.Indices.{sum_same}
 use Rattle.rules.proofs.Sound.{SoundRecord, every_variable}
 use Rattle.netlist.specs.Taken.{Sound, Bits, BitAt, Readable}
-use Rattle.netlist.proofs.Facts.{Facts, output_within}
+use Rattle.netlist.proofs.Facts.{Facts, facts, output_within}
 
 -- a store behind what is filled
 take_more : (xs : List ℕ) (k b : ℕ) → k < length xs → take (k + 1) (set xs k b) ≡ take k xs ++ b ∷ []
@@ -44,6 +44,14 @@ literal_bit xs x h = go (inverted x)
     go zero = h
     go (suc k) = omega arith
 
+-- the variable of an output has a bit
+pub output_bit : {c : Counts} {table : List ℕ} (values : List ℕ) → Sound c table → c.m < length values → Bits (c.m + 1) values → (i : ℕ) → i < c.o
+    → BitAt values (variable (output table i))
+unfolding Bits
+output_bit values s long bits i l =
+    let w = output_within s i l in
+    (omega arith, bits _ (omega arith))
+
 -- the product of two such values is 0 or 1
 times_bit : (x y : ℕ) → x ≤ 1 → y ≤ 1 → x * y ≤ 1
 times_bit x y h k = mul-le-mul h k
@@ -64,13 +72,6 @@ turned_bits (suc zero) zero h k = xor_zero_l 1
 turned_bits (suc zero) (suc zero) h k = xor_self 1
 turned_bits (suc zero) (suc (suc value)) h k = absurd (omega arith)
 turned_bits (suc (suc i)) value h k = absurd (omega arith)
-
--- one bit more of a number, behind what is filled
-pub bits_more : (xs front : List ℕ) (x at i : ℕ) → at + i < length xs → take (at + i) xs ≡ front ++ listed i (bit x)
-    → take (at + (i + 1)) (set xs (at + i) (bit x i)) ≡ front ++ listed (i + 1) (bit x)
-unfolding listed
-bits_more xs front x at i h e =
-    rw (← add_assoc at i 1, take_more xs (at + i) (bit x i) h, e, add-one i) (append_assoc front (listed i (bit x)) (bit x i ∷ []))
 
 -- false, then the bits of a, then those of b
 pub inputs_put : (xs ys zs : List ℕ) (n a b : ℕ) → 0 < length xs → take (1 + n) ys ≡ take 1 (set xs 0 0) ++ listed n (bit a)
@@ -165,3 +166,6 @@ module _ (c : Counts) (table : List ℕ) (a b : ℕ) where
       same i l =
           let w = output_within s i l in
           sym (literal_take (c.m + 1) xs (output table i) (omega arith)) ∙ rw e
+
+-- how the values are filled in, gate by gate
+pub ruleset filling = (facts, bits_filled, values_start, values_more, values_end)

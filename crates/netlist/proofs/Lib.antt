@@ -2,3 +2,4 @@
 pub mod Facts
 pub mod Filled
 pub mod Summed
+pub mod Said

@@ -1,37 +1,17 @@
 -- How the code's words stand for the operands as they are read, and for their product.
-use Rattle.std.proofs.Common.{◌≡◌, ℕ, zero, suc, ◌+◌, ◌-◌, ◌*◌, ◌/◌, ◌%◌, ◌^◌, ◌<◌, ◌≤◌, Bool, true, false, cond, ◌&&◌, ◌||◌, eqb, ltb, leb, sym, refl, ap, ◌∙◌, mod-lt, mod-eq_of_lt, mul_comm, mul-le-mul, one-mul, arith, lit<, pow_pos, pow_mono, pow-add, shl_exact, ltb-false, ltb-true, ne_eqb, leb-true}
+use Rattle.std.proofs.Common.{◌≡◌, ℕ, ◌+◌, ◌-◌, ◌*◌, ◌/◌, ◌%◌, ◌^◌, ◌<◌, ◌≤◌, Bool, true, false, cond, ◌&&◌, eqb, ltb, leb, sym, refl, ap, ◌∙◌, mod-lt, mod-eq_of_lt, mul-le-mul, one-mul, arith, lit<, pow_pos, pow_mono, shl_exact, ltb-false, ltb-true, leb-true}
 use mathlib.Core.Bool.{xor}
 use native.Mathlib.Nat.{add-mod, zero-mod, mod_self, mod-eq-sub-mod}
-use lib.Arith.{digits_lt}
 use lib.Pow.{mod-mod-pow}
 use borrow.Author.Tests.{eqb-false}
-use Rattle.rules.specs.Product.{Kind, plain, signed, truncated, multiply_add, multiply_add_signed, kind_of, complement, adds, shares}
-use Rattle.rules.specs.Product.{operand_width, addend_width, first_word, outputs_of, operand, negative, size, modulo, product, width_wrong}
+use Rattle.rules.specs.Product.{Kind, plain, signed, truncated, multiply_add, multiply_add_signed, complement, adds, shares}
+use Rattle.rules.specs.Product.{operand_width, addend_width, outputs_of, operand, negative, size, modulo, product, width_wrong}
 use Rattle.rules.specs.declared.counts.Counts.{Counts}
 use Rattle.rules.proofs.Indices.{neither}
 
 -- the code's `1 << n`
 pub one_shift : (n : ℕ) → n < 64 → 1 * 2 ^ n % 2 ^ 64 ≡ 2 ^ n
 one_shift n h = shl_exact 1 n 64 (lit< tt) (omega arith) ∙ one-mul (2 ^ n)
-
--- in two's complement are kinds 1 and 4, and c is added in kinds 3 and 4
-pub complement_test : (kind : ℕ) → (eqb kind 1 || eqb kind 4) ≡ complement (kind_of kind)
-unfolding kind_of complement
-complement_test zero = refl
-complement_test (suc zero) = refl
-complement_test (suc (suc zero)) = refl
-complement_test (suc (suc (suc zero))) = refl
-complement_test (suc (suc (suc (suc zero)))) = refl
-complement_test (suc (suc (suc (suc (suc k))))) = rw (ne_eqb (suc (suc (suc (suc (suc k))))) 1 (λ e. omega arith), ne_eqb (suc (suc (suc (suc (suc k))))) 4 (λ e. omega arith))
-
-pub adds_test : (kind : ℕ) → (eqb kind 3 || eqb kind 4) ≡ adds (kind_of kind)
-unfolding kind_of adds
-adds_test zero = refl
-adds_test (suc zero) = refl
-adds_test (suc (suc zero)) = refl
-adds_test (suc (suc (suc zero))) = refl
-adds_test (suc (suc (suc (suc zero)))) = refl
-adds_test (suc (suc (suc (suc (suc k))))) = rw (ne_eqb (suc (suc (suc (suc (suc k))))) 3 (λ e. omega arith), ne_eqb (suc (suc (suc (suc (suc k))))) 4 (λ e. omega arith))
 
 -- the shares are two or four
 pub shares_some : (kind : Kind) → 0 < shares kind
@@ -68,16 +48,6 @@ outputs_fit signed n h = omega arith
 outputs_fit truncated n h = omega arith
 outputs_fit multiply_add n h = omega arith
 outputs_fit multiply_add_signed n h = omega arith
-
--- all kinds but the truncated one have 2n outputs
-pub outputs_whole : (kind n : ℕ) → (kind ≡ 2 → ⊥) → 2 * n ≡ outputs_of (kind_of kind) n
-unfolding kind_of outputs_of
-outputs_whole zero n h = refl
-outputs_whole (suc zero) n h = refl
-outputs_whole (suc (suc zero)) n h = absurd (h refl)
-outputs_whole (suc (suc (suc zero))) n h = refl
-outputs_whole (suc (suc (suc (suc zero)))) n h = refl
-outputs_whole (suc (suc (suc (suc (suc k))))) n h = refl
 
 -- an operand of n bits is less than 2^n from 0
 pub size_below : (kind : Kind) (n x : ℕ) → size kind n x < 2 ^ n
@@ -129,11 +99,6 @@ from_zero l x r h e =
         by true k = small m p q (ltb-true _ _ k) z
         by false k = large m p q a b (ltb-false _ _ k) z
 
--- an operand's size, from its sign
-pub size_of : (kind : Kind) (n x : ℕ) (t : Bool) → t ≡ negative kind n x → cond t (2 ^ n - x % 2 ^ n) (x % 2 ^ n) ≡ size kind n x
-unfolding size operand
-size_of kind n x t e = rw e
-
 -- the product, from the sizes and the signs
 pub product_of : (kind : Kind) (n a b : ℕ) {l x y : ℕ} {p q t : Bool} → l ≡ outputs_of kind n
     → x ≡ size kind n a → y ≡ size kind n b → p ≡ negative kind n a → q ≡ negative kind n b → xor p q ≡ t
@@ -151,15 +116,3 @@ width_right kind n h =
     go : (t : Bool) → n ≤ 64 / cond t 4 2 → n ≤ 32
     go true l = omega arith
     go false l = omega arith
-
--- b above a fits a word
-pub above_fits : (n a b : ℕ) → n ≤ 32 → a < 2 ^ n → b < 2 ^ n → a + b * 2 ^ n < 2 ^ 64
-above_fits n a b h k l =
-    let twice : n + n ≤ 64 = omega arith in
-    let p : 2 ^ (n + n) ≤ 2 ^ 64 = pow_mono twice in
-    omega (arith, digits_lt l k, pow-add 2 n n)
-
--- the words that hold the inputs: with c the first has a and b
-pub first_added : (kind n a b : ℕ) → adds (kind_of kind) ≡ true → a + b * 2 ^ n ≡ first_word (kind_of kind) n a b
-unfolding first_word
-first_added kind n a b e = rw (e, mul_comm b (2 ^ n))

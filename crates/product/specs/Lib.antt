@@ -1,0 +1,2 @@
+-- The kinds as the code has them.
+pub mod Kinds

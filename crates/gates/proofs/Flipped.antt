@@ -1,18 +1,24 @@
 -- One variable of a set, as a bit of a number: to ask for it, to take it out, to put it in.
 use mathlib.Core.Path.{◌≡◌, refl, ap, sym, ◌∙◌}
+use mathlib.Core.Bool.{true, false}
 use mathlib.Core.Logic.{◌⊎◌, inl, inr, ⊎_elim}
 use Prim.Native.Nat.{ℕ, zero, suc, ◌+◌, ◌-◌, ◌*◌, ◌/◌, ◌%◌, ◌^◌, ◌<◌, ◌≤◌}
 use native.Mathlib.Nat.{one-mul, zero-mul, add-zero, mod-lt, mod-eq_of_lt, mul-add-mod_self_right, mul-mod_left, div-eq_of_lt, div_self}
 use native.Mathlib.Omega.{arith}
+use borrow.Author.Tests.{eqb-true, eqb-false}
 use lib.Arith.{bin_ind}
 use lib.Bits.{bit_and, bit_xor, differ, and_block, and_mask, and_zero_r, xor_add_and, xor_step, xor_shr}
+use lib.Dec.{eqb}
 use lib.Pow.{pow_pos, pow-lt, pow-add, split, shl-shr}
 use Rattle.rules.specs.Values.{bit}
+use Rattle.rules.proofs.Bits.{bit_digit}
 
--- a bit is 0 or 1
-pub bit_lt : (s i : ℕ) → bit s i < 2
-unfolding bit
-bit_lt s i = omega arith
+-- what the test of a bit found
+pub bit_yes : (s v : ℕ) → true ≡ eqb (bit s v) 1 → bit s v ≡ 1
+bit_yes s v e = eqb-true (bit s v) 1 (sym e)
+
+pub bit_no : (s v : ℕ) → false ≡ eqb (bit s v) 1 → bit s v ≡ 0
+bit_no s v e = let other = eqb-false (bit s v) 1 (sym e) in omega (arith, bit_digit s v)
 
 -- what a set and the set of v alone share
 and_power : (s v : ℕ) → bit_and s (2 ^ v) ≡ bit s v * 2 ^ v
@@ -31,16 +37,6 @@ flip_off s v h = omega (arith, xor_add_and s (2 ^ v), and_power s v ∙ ap (λ (
 -- v is not there: it is put in
 pub flip_on : (s v : ℕ) → bit s v ≡ 0 → bit_xor s (2 ^ v) ≡ s + 2 ^ v
 flip_on s v h = omega (arith, xor_add_and s (2 ^ v), and_power s v ∙ ap (λ (x : ℕ). x * 2 ^ v) h ∙ zero-mul (2 ^ v))
-
--- a number below 2
-two : (b : ℕ) → b < 2 → (b ≡ 0) ⊎ (b ≡ 1)
-two zero h = inl refl
-two (suc zero) h = inr refl
-two (suc (suc b)) h = absurd (omega arith)
-
--- a bit is one or the other
-pub bit_two : (s i : ℕ) → (bit s i ≡ 0) ⊎ (bit s i ≡ 1)
-bit_two s i = two (bit s i) (bit_lt s i)
 
 -- the sum of two bits without carry is a bit
 differ_lt : (x y : ℕ) → x < 2 → y < 2 → differ x y < 2

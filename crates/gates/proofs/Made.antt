@@ -1,17 +1,17 @@
 -- How many terms a record makes of one.
 use mathlib.Core.Path.{◌≡◌, refl, ap, sym, ◌∙◌}
-use mathlib.Core.Bool.{cond}
-use mathlib.Core.List.{[], ◌∷◌}
-use Prim.Native.Nat.{ℕ, zero, suc, ◌+◌, ◌^◌, ◌<◌}
-use native.Mathlib.Nat.{add-zero, zero-add}
-use native.Mathlib.Numerals.{add-one}
+use mathlib.Core.Bool.{Bool, true, false, cond, not, true≢false}
+use mathlib.Core.List.{List, [], ◌∷◌}
+use Prim.Native.Nat.{ℕ, zero, suc, ◌+◌, ◌≤◌}
 use native.Mathlib.Omega.{arith}
 use lib.Dec.{eqb}
-use lib.IntN.{ℤ, pos, negsuc}
-use lib.ListN.{length, length-append}
-use lib.Signed.{mag}
-use mir.Syntax.{w16}
-use mir.Val.{hbits, of_z}
+use lib.IntN.{ℤ, pos}
+use lib.ListN.{length, get_or, take, length-append}
+use Rattle.std.proofs.Common.{count_by}
+use Rattle.std.proofs.lemmas.List.Sums.{sum_by_more}
+use Rattle.std.proofs.lemmas.Bool.Decides.{Decides-int_eq}
+use Rattle.std.specs.Ordering.{int_eq}
+use native.Mathlib.Numerals.{add-one}
 use borrow.Author.Tests.{ne_eqb}
 use Rattle.rules.specs.Cells.{above, below}
 use Rattle.rules.specs.Each.{sum, joined}
@@ -28,23 +28,28 @@ use Rattle.gates.specs.Rows.{row_of, Same, not_zero, times_row, leaving}
 use Rattle.gates.specs.declared.apart.Variables.{Variables}
 use Rattle.gates.proofs.Parted.{by_literal, literal_by, left_makes, all_left}
 use Rattle.gates.proofs.Spread.{whole_makes}
+use Rattle.gates.proofs.Whole.{whole_none}
 
 -- a number that is not 0 counts once
-pub present_one : (n : ℕ) → (n ≡ 0 → ⊥) → present n ≡ 1
+present_one : (n : ℕ) → (n ≡ 0 → ⊥) → present n ≡ 1
 unfolding present
 present_one zero h = absurd (h refl)
 present_one (suc n) h = refl
 
--- a whole number of 16 bits is 0 where its bits are
-present_bits : (z : ℤ) → mag z < 2 ^ hbits w16 → present (of_z w16 z) ≡ present (above z + below z)
+-- so does a coefficient
+present_whole : (z : ℤ) (none : Bool) → int_eq z (pos 0) ≡ none → present (above z + below z) ≡ cond (not none) 1 0
 unfolding above below present
-present_bits (pos k) h = rw (add-zero k)
-present_bits (negsuc k) h = rw (zero-add (suc k)) (present_one (of_z w16 (negsuc k)) (λ e. omega arith))
+present_whole z true e = rw ((Decides-int_eq z (pos 0)).0 e)
+present_whole z false e = present_one (above z + below z) (λ q. absurd (true≢false (sym ((Decides-int_eq z (pos 0)).1 (whole_none z q)) ∙ e)))
 
--- the count with one coefficient more
-pub count_more : (n count : ℕ) (row : ℕ → ℤ) → mag (row n) < 2 ^ hbits w16 → count ≡ not_zero n row → count + present (of_z w16 (row n)) ≡ not_zero (n + 1) row
-unfolding not_zero sum
-count_more n count row h e = rw (add-one n, present_bits (row n) h, e)
+-- as many of the first n count as are not 0
+pub counted_front : (row : List ℤ) (n : ℕ) → n ≤ length row → count_by (λ z. not (int_eq z (pos 0))) (take n row) ≡ not_zero n (row_of row)
+unfolding not_zero sum row_of
+counted_front row zero h = refl
+counted_front row (suc n) h =
+    ap (λ (k : ℕ). count_by (λ z. not (int_eq z (pos 0))) (take k row)) (sym (add-one n))
+    ∙ sum_by_more (λ (z : ℤ). cond (not (int_eq z (pos 0))) 1 0) row n (pos 0) (omega arith)
+    ∙ rw (counted_front row n (omega arith), present_whole (get_or row n (pos 0)) _ refl)
 
 -- a list of one term, or of none where n is 0
 one_long : (q : Term) (n : ℕ) → length (cond (eqb n 0) [] (q ∷ [])) ≡ present n

@@ -1,7 +1,7 @@
 -- Laws of the multipliers: how far they lie from 0, and each from those of a row that knows one variable less.
 use mathlib.Core.Path.{◌≡◌, refl, ap, ◌∙◌}
 use mathlib.Core.Bool.{cond}
-use mathlib.Core.List.{List}
+use mathlib.Core.List.{List, ◌++◌}
 use mathlib.Core.Logic.{◌⊎◌, inl, inr, ⊎_elim}
 use Prim.Native.Nat.{ℕ, zero, suc, ◌+◌, ◌-◌, ◌*◌, ◌/◌, ◌%◌, ◌^◌, ◌<◌, ◌≤◌}
 use native.Mathlib.Nat.{eq-or-lt_of_le}
@@ -9,7 +9,7 @@ use native.Mathlib.Omega.{arith}
 use lib.Arith.{digits_div, digits_mod}
 use lib.Dec.{eqb}
 use lib.IntN.{ℤ, pos, ◌+ℤ◌}
-use lib.ListN.{length, get_or, set}
+use lib.ListN.{length, get_or, set, get_or-append}
 use lib.Pow.{pow_pos}
 use lib.Seq.{get_or-set_same, get_or-set_other}
 use mir.Syntax.{w16}
@@ -18,7 +18,7 @@ use Rattle.rules.specs.Cells.{above, below}
 use Rattle.rules.specs.Values.{bit}
 use Rattle.rules.proofs.Bits.{bit_cases, bit_put}
 use Rattle.gates.specs.Apart.{Within}
-use Rattle.gates.specs.Rows.{holding, multiplier, Tabled, Lowest, Rows}
+use Rattle.gates.specs.Rows.{row_of, holding, multiplier, Tabled, Lowest, Rows}
 use Rattle.gates.proofs.Replacing.{bit_in, below_eight}
 use Rattle.gates.proofs.Whole.{whole_within, read_back}
 
@@ -48,6 +48,14 @@ table_within row table n h f j l = rw (f j l) (multiplier_within (j / 8) row h (
 pub multiplier_none : (row : ℕ → ℤ) (u : ℕ) → multiplier row 0 u ≡ row u
 unfolding multiplier holding bit
 multiplier_none row u = refl
+
+-- so a row of its own begins the table
+pub first_row : (row behind : List ℤ) → length row ≡ 8 → Tabled (row_of row) 8 (row ++ behind)
+unfolding row_of
+first_row row behind e i l =
+    let none : i / 8 ≡ 0 = omega arith in
+    let own : i % 8 ≡ i = omega arith in
+    get_or-append row behind (pos 0) i (omega arith) ∙ rw (none, own, multiplier_none (row_of row) i)
 
 -- one variable more, the lowest that is held
 next : (k held : ℕ) (row : ℕ → ℤ) (u : ℕ) → k < 3 → bit held k ≡ 0 → ((j : ℕ) → j < k → bit held j ≡ 0)
@@ -86,80 +94,57 @@ table_more row table i z l e f j d = ⊎_elim
     (λ (q : j < i). rw (get_or-set_other table i j z (pos 0) (λ n. omega arith)) (f j q))
     (eq-or-lt_of_le {n = j} {m = i} (omega arith))
 
--- two coefficients near 0, and their sum, written in 16 bits and read back
-module _ (a b : ℤ) (h : (above a ≤ 864) × (below a ≤ 864)) (k : (above b ≤ 864) × (below b ≤ 864)) where
-  pub first_back : to_z w16 (of_z w16 a) ≡ a
-  first_back = read_back a (omega (arith, h.0), omega (arith, h.1))
-
-  pub second_back : to_z w16 (of_z w16 b) ≡ b
-  second_back = read_back b (omega (arith, k.0), omega (arith, k.1))
-
-  pub sum_back : (r : ℤ) → r ≡ a +ℤ b → to_z w16 (of_z w16 r) ≡ a +ℤ b
-  sum_back r e = rw e (read_back (a +ℤ b) (whole_within a b 864 864 h k))
-
--- so is a multiplier
+-- a multiplier lies near 0, so it can be written in 16 bits and read back
 pub multiplier_back : (row : ℕ → ℤ) (held u : ℕ) (r : ℤ) → u < 8 → Within 108 row → r ≡ multiplier row held u → to_z w16 (of_z w16 r) ≡ multiplier row held u
 multiplier_back row held u r l h e =
     let near = multiplier_within held row h u l in
     rw e (read_back (multiplier row held u) (omega (arith, near.0), omega (arith, near.1)))
 
 -- the place of the first of the two that a multiplier is made of
-module _ (start step u : ℕ) (l : Lowest start step) (a : u < 8) where
-  pub step_some : 1 ≤ step
-  step_some = rw l.is_step (pow_pos l.variable)
-
-  pub step_back : 8 * step ≤ start + u
-  step_back = let p = pow_pos l.variable in omega (arith, l.is_step, l.is_start)
+module _ (start k u : ℕ) (l : Lowest start k) (a : u < 8) where
+  pub step_back : 8 * 2 ^ k ≤ start + u
+  step_back = let p = pow_pos k in omega (arith, l.is_start)
 
   here : (start + u) % 8 ≡ u
-  here = rw l.is_start (start_mod (l.others + 2 ^ l.variable))
+  here = rw l.is_start (start_mod (l.others + 2 ^ k))
     where
       start_mod : (n : ℕ) → (8 * n + u) % 8 ≡ u
       start_mod n = omega arith
 
   -- it lies in the row in front, at the same subset
-  row_back : start + u - 8 * step ≡ l.others * 8 + (start + u) % 8
-  row_back = omega (arith, l.is_step, l.is_start, here)
+  row_back : start + u - 8 * 2 ^ k ≡ l.others * 8 + (start + u) % 8
+  row_back = omega (arith, l.is_start, here)
 
-  row_is : (start + u) / 8 ≡ l.others + 2 ^ l.variable
-  row_is = rw l.is_start (start_div (l.others + 2 ^ l.variable))
+  row_is : (start + u) / 8 ≡ l.others + 2 ^ k
+  row_is = rw l.is_start (start_div (l.others + 2 ^ k))
     where
       start_div : (n : ℕ) → (8 * n + u) / 8 ≡ n
       start_div n = omega arith
 
-  chosen : u / step % 2 ≡ bit ((start + u) % 8) l.variable
-  unfolding bit
-  chosen = rw (here, l.is_step)
-
   -- the multiplier is made of the two
   pub next_held : (row : ℕ → ℤ) (table : List ℤ) → Tabled row (start + u) table
-      → cond (eqb (u / step % 2) 1) (pos 0) (get_or table (start + u - 8 * step) (pos 0) +ℤ get_or table (start + u - 8 * step + step) (pos 0)) ≡ multiplier row ((start + u) / 8) ((start + u) % 8)
+      → cond (eqb (bit u k) 1) (pos 0) (get_or table (start + u - 8 * 2 ^ k) (pos 0) +ℤ get_or table (start + u - 8 * 2 ^ k + 2 ^ k) (pos 0)) ≡ multiplier row ((start + u) / 8) ((start + u) % 8)
   next_held row table f =
-      let wide : start + u - 8 * step + 2 ^ l.variable < start + u = let p = pow_pos l.variable in omega (arith, l.is_step, l.is_start) in
-      rw (ap (λ (n : ℕ). get_or table (start + u - 8 * step + n) (pos 0)) l.is_step)
-      (place row table (start + u) l.variable l.others (start + u - 8 * step) (u / step % 2) f l.low l.lacks l.none row_is row_back chosen wide)
+      let wide : start + u - 8 * 2 ^ k + 2 ^ k < start + u = let p = pow_pos k in omega (arith, l.is_start) in
+      place row table (start + u) k l.others (start + u - 8 * 2 ^ k) (bit u k) f l.low l.lacks l.none row_is row_back (rw here) wide
 
 -- the rows behind the first, and what each is the lowest of
-pub lowest_first : (n : ℕ) → n < 8 → n % 2 ≡ 1 → Lowest (8 * n) 1
+pub lowest_first : (n : ℕ) → n < 8 → n % 2 ≡ 1 → Lowest (8 * n) 0
 unfolding bit
 lowest_first n h e = record {
-  variable = 0;
   others = n - 1;
   low = omega arith;
-  is_step = refl;
   is_start = omega arith;
   last = omega arith;
   lacks = omega arith;
   none = λ j l. absurd (omega arith);
 }
 
-pub lowest_second : (n : ℕ) → n < 8 → n % 4 ≡ 2 → Lowest (8 * n) 2
+pub lowest_second : (n : ℕ) → n < 8 → n % 4 ≡ 2 → Lowest (8 * n) 1
 unfolding bit
 lowest_second n h e = record {
-  variable = 1;
   others = n - 2;
   low = omega arith;
-  is_step = refl;
   is_start = omega arith;
   last = omega arith;
   lacks = omega arith;
@@ -170,13 +155,11 @@ lowest_second n h e = record {
     first zero l = omega arith
     first (suc j) l = absurd (omega arith)
 
-pub lowest_third : Lowest 32 4
+pub lowest_third : Lowest 32 2
 unfolding bit
 lowest_third = record {
-  variable = 2;
   others = 0;
   low = omega arith;
-  is_step = refl;
   is_start = refl;
   last = omega arith;
   lacks = refl;
@@ -188,19 +171,6 @@ lowest_third = record {
     first (suc zero) l = refl
     first (suc (suc j)) l = absurd (omega arith)
 
--- a table that is longer than four rows has eight
-pub eight_rows : (n : ℕ) → Rows n → 32 < n → n ≡ 64
-eight_rows n (inl e) l = absurd (omega arith)
-eight_rows n (inr e) l = e
-
-pub four_rows : (n : ℕ) → Rows n → n ≤ 32 → n ≡ 32
-four_rows n (inl e) l = e
-four_rows n (inr e) l = absurd (omega arith)
-
 pub rows_long : (n : ℕ) → Rows n → 32 ≤ n
 rows_long n (inl e) = omega arith
 rows_long n (inr e) = omega arith
-
--- a row begins within the table, with room for all of it
-pub starts_low : (start step : ℕ) → Lowest start step → start + 7 < 64
-starts_low start step l = omega (arith, l.is_start, l.last)

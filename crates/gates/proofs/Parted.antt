@@ -6,7 +6,7 @@ use Prim.Native.Nat.{ℕ, zero, suc, ◌-◌, ◌*◌, ◌%◌, ◌<◌, ◌≤�
 use native.Mathlib.Omega.{arith}
 use lib.Dec.{eqb}
 use lib.IntN.{ℤ, pos, negsuc}
-use lib.ListN.{get_or}
+use lib.ListN.{get_or, drop, replicate}
 use borrow.Author.Tests.{eq-eqb, eqb-true, eqb-false, not-true}
 use Rattle.rules.specs.Cells.{above, below}
 use Rattle.rules.specs.Each.{sum, joined}
@@ -24,7 +24,7 @@ use Rattle.gates.specs.declared.apart.Variables.{Variables}
 use Rattle.gates.proofs.Joined.{same_row, leave_x, leave_y, leave_z, leaving_free, leaving_keeps, leaving_within, joining_free, joining_third, joining_within, join_x_y, join_x_z, join_y_z}
 use Rattle.gates.proofs.Spread.{filled, share, row_shares}
 use Rattle.gates.proofs.Whole.{scaled_one, scaled_negated}
-use Rattle.gates.proofs.Written.{within_same}
+use Rattle.gates.proofs.Written.{within_same, four_row}
 
 -- the literals 1 - x twice: what is taken from m twice is what it was
 twice : (m c : ℕ) → c ≤ m → m - (m - c) ≡ c
@@ -323,3 +323,14 @@ third_none n k (suc (suc (suc (suc (suc zero))))) l = behind n k 1
 third_none n k (suc (suc (suc (suc (suc (suc zero)))))) l = behind n k 2
 third_none n k (suc (suc (suc (suc (suc (suc (suc zero))))))) l = behind n k 3
 third_none n k (suc (suc (suc (suc (suc (suc (suc (suc u)))))))) l = absurd (omega arith)
+
+-- nor do zeros behind its coefficients add one
+in_front : (n k : ℕ) → Same (row_of (and_row n k ++ drop 4 (replicate 8 (pos 0)))) (row_of (and_row n k))
+unfolding and_row
+in_front zero zero = four_row (pos 0) (pos 0) (pos 0) (pos 1)
+in_front zero (suc k) = four_row (pos 0) (pos 1) (pos 0) (negsuc 0)
+in_front (suc n) zero = four_row (pos 0) (pos 0) (pos 1) (negsuc 0)
+in_front (suc n) (suc k) = four_row (pos 1) (negsuc 0) (negsuc 0) (pos 1)
+
+pub product_row : (n k : ℕ) → Same (row_of (and_row n k ++ drop 4 (replicate 8 (pos 0)))) (leaving 0 2 (row_of (and_row n k)))
+product_row n k u l = in_front n k u l ∙ third_none n k u l

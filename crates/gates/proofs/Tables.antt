@@ -3,7 +3,7 @@ use mathlib.Core.Path.{◌≡◌, refl, ap, ◌∙◌}
 use mathlib.Core.List.{List, ◌∷◌}
 use mathlib.Core.Logic.{◌⊎◌, inl, inr, ⊎_elim}
 use Prim.Native.Nat.{ℕ, zero, suc, ◌+◌, ◌-◌, ◌*◌, ◌/◌, ◌%◌, ◌^◌, ◌<◌, ◌≤◌}
-use native.Mathlib.Nat.{add-mul, one-mul, eq-or-lt_of_le, mul-le-mul_right}
+use native.Mathlib.Nat.{add-mul, one-mul, mul-le-mul_right}
 use native.Mathlib.Numerals.{add-one-le}
 use native.Mathlib.Omega.{arith}
 use lib.Bits.{bit_xor, xor_lt}
@@ -12,7 +12,8 @@ use lib.Pow.{pow-lt}
 use lib.Seq.{drop-set-add, drop-set-lt, take-set-le}
 use Rattle.rules.specs.Values.{bit}
 use Rattle.words.specs.Numbers.{num, words_at}
-use Rattle.words.proofs.Encoded.{drop_zeros}
+use Rattle.std.proofs.lemmas.Bool.{cases_lt}
+use Rattle.std.proofs.lemmas.List.{drop-replicate}
 use Rattle.words.proofs.Numbers.{turned_set}
 use Rattle.gates.specs.Masks.{mask_of, mask_at, turned_by, Turned, Masked}
 use Rattle.gates.specs.declared.apart.Variables.{Variables}
@@ -43,43 +44,30 @@ module _ (m : List ℕ) (j w v x : ℕ) (h : j * w + w ≤ length m) (l : v < 64
   -- so the other masks stay
   others_stay : (i : ℕ) → (i ≡ j → ⊥) → mask_at w (set m (j * w + v / 64) x) i ≡ mask_at w m i
   unfolding mask_at
-  others_stay i n = ap num (⊎_elim (λ (d : i ≤ j). below i (omega (arith, n))) (λ (d : j < i). over i d) (less i j))
-    where
-      less : (a b : ℕ) → (a ≤ b) ⊎ (b < a)
-      less zero b = inl (omega arith)
-      less (suc a) zero = inr (omega arith)
-      less (suc a) (suc b) = ⊎_elim (λ (q : a ≤ b). inl (omega arith)) (λ (q : b < a). inr (omega arith)) (less a b)
+  others_stay i n = ap num (⊎_elim (λ (d : i < j). below i d) (λ (d : j ≤ i). over i (omega (arith, n))) (cases_lt i j))
 
 -- nothing is turned
-pub mask_stays : (m : List ℕ) (w j v d : ℕ) → d ≡ 0 → Turned w j v d m m
+pub mask_stays : (m : List ℕ) (w j v : ℕ) → Turned w j v 0 m m
 unfolding turned_by
-mask_stays m w j v d e = record { here = rw e; there = λ i n. refl; behind = λ b k. refl }
+mask_stays m w j v = record { here = refl; there = λ i n. refl; behind = λ b k. refl }
 
 -- a variable turned in the j-th mask
-pub mask_turned : (m m' : List ℕ) (j w v d : ℕ) → j * w + w ≤ length m → ((n : ℕ) → get_or m n 0 < 2 ^ 64) → v < 64 * w → (d ≡ 0 → ⊥)
-    → m' ≡ set m (j * w + v / 64) (bit_xor (get_or m (j * w + v / 64) 0) (2 ^ (v % 64))) → Turned w j v d m m'
+pub mask_turned : (m m' : List ℕ) (j w v : ℕ) → j * w + w ≤ length m → ((n : ℕ) → get_or m n 0 < 2 ^ 64) → v < 64 * w
+    → m' ≡ set m (j * w + v / 64) (bit_xor (get_or m (j * w + v / 64) 0) (2 ^ (v % 64))) → Turned w j v 1 m m'
 unfolding mask_at turned_by
-mask_turned m m' j w v zero h f l nz e = absurd (nz refl)
-mask_turned m m' j w v (suc d) h f l nz e = record {
+mask_turned m m' j w v h f l e = record {
   here = rw e (turned_set m (j * w) w v h f l);
   there = λ i n. rw e (others_stay m j w v (bit_xor (get_or m (j * w + v / 64) 0) (2 ^ (v % 64))) h l i n);
   behind = λ b k. rw (e, drop-set-lt b m (j * w + v / 64) (bit_xor (get_or m (j * w + v / 64) 0) (2 ^ (v % 64))) (omega arith));
 }
 
--- four turns make the mask of a stream
-turns : (v : ℕ) (q : Variables) (j : ℕ) → j < 8 → turned_by (j % 2) (turned_by (j / 2 % 2) (turned_by (j / 4) (turned_by 1 0 v) q.z) q.y) q.x ≡ mask_of v q j
-unfolding mask_of turned_by bit
-turns v q j l =
-    let first : j / 2 ^ 0 % 2 ≡ j % 2 = omega arith in
-    let third : j / 2 ^ 2 % 2 ≡ j / 4 = omega arith in
-    rw (first, third)
-
--- from a mask of zeros
-pub mask_made : (w v : ℕ) (q : Variables) (j : ℕ) (m0 m1 m2 m3 m4 : List ℕ) → j < 8 → mask_at w m0 j ≡ 0
-    → Turned w j v 1 m0 m1 → Turned w j q.z (j / 4) m1 m2 → Turned w j q.y (j / 2 % 2) m2 m3 → Turned w j q.x (j % 2) m3 m4
+-- four turns make the mask of a stream from a mask of zeros: the gate's variable goes out, and those that the subset has come in
+pub mask_made : (w v : ℕ) (q : Variables) (j : ℕ) (m0 m1 m2 m3 m4 : List ℕ) → mask_at w m0 j ≡ 0
+    → Turned w j v 1 m0 m1 → Turned w j q.z (bit j 2) m1 m2 → Turned w j q.y (bit j 1) m2 m3 → Turned w j q.x (bit j 0) m3 m4
     → Masked w v q j m0 m4
-mask_made w v q j m0 m1 m2 m3 m4 l z t1 t2 t3 t4 = record {
-  here = rw (t4.here, t3.here, t2.here, t1.here, z) (turns v q j l);
+unfolding mask_of turned_by
+mask_made w v q j m0 m1 m2 m3 m4 z t1 t2 t3 t4 = record {
+  here = rw (t4.here, t3.here, t2.here, t1.here, z);
   there = λ i n. t4.there i n ∙ t3.there i n ∙ t2.there i n ∙ t1.there i n;
   behind = λ b k. t4.behind b k ∙ t3.behind b k ∙ t2.behind b k ∙ t1.behind b k;
 }
@@ -88,29 +76,17 @@ mask_made w v q j m0 m1 m2 m3 m4 l z t1 t2 t3 t4 = record {
 abbrev pub Making : ℕ → ℕ → Variables → ℕ → ℕ → List ℕ → Type 0
 Making w v q k j m = ((i : ℕ) → i < j → mask_at w m i ≡ mask_of v q i) × ((i : ℕ) → j ≤ i → i < k → mask_at w m i ≡ 0)
 
--- one more mask
-pub making_more : (w v : ℕ) (q : Variables) (k j : ℕ) (m m' : List ℕ) → Making w v q k j m → Masked w v q j m m' → Making w v q k (j + 1) m'
-making_more w v q k j m m' h t = (
-  (λ i l. ⊎_elim (λ (e : i ≡ j). rw e t.here) (λ (d : i < j). t.there i (λ e. omega arith) ∙ h.0 i d) (eq-or-lt_of_le {n = i} {m = j} (omega arith))),
-  (λ i a b. t.there i (λ e. omega arith) ∙ h.1 i (omega arith) b),
-)
-
--- words of zeros are 0
-num_zeros : (n : ℕ) → num (replicate n 0) ≡ 0
+-- zeros are the number 0
+num_zeros : (i n : ℕ) → num (take i (replicate n 0)) ≡ 0
 unfolding num
-num_zeros zero = refl
-num_zeros (suc n) = rw (num_zeros n)
-
--- zeros of zeros
-take_zeros : (i n : ℕ) → (k : ℕ) × (take {A = ℕ} i (replicate n 0) ≡ replicate k 0)
-take_zeros zero n = (0, refl)
-take_zeros (suc i) zero = (0, refl)
-take_zeros (suc i) (suc n) = let r = take_zeros i n in (suc r.0, ap (λ (l : List ℕ). 0 ∷ l) r.1)
+num_zeros zero n = refl
+num_zeros (suc i) zero = refl
+num_zeros (suc i) (suc n) = rw (num_zeros i n)
 
 -- a mask of zeros changes nothing
 pub mask_none : (w n j : ℕ) → mask_at w (replicate n 0) j ≡ 0
 unfolding mask_at
-mask_none w n j = let r = take_zeros w (n - j * w) in rw (drop_zeros (j * w) n, r.1) (num_zeros r.0)
+mask_none w n j = rw (drop-replicate {X = ℕ} (j * w) n 0) (num_zeros w (n - j * w))
 
 -- a set stays below a power of two that is above the variable turned in it
 turned_lt : (e d s v : ℕ) → s < 2 ^ e → v < e → turned_by d s v < 2 ^ e

@@ -107,7 +107,3 @@ read_back z h = to_z-of_z {w = w16} (sfits_of (omega (arith, mag_within z 1728 h
 -- so in 8 bits, where it lies nearer
 pub read_back_narrow : (z : ℤ) → (above z ≤ 4) × (below z ≤ 4) → to_z w8 (of_z w8 z) ≡ z
 read_back_narrow z h = to_z-of_z {w = w8} (sfits_of (omega (arith, mag_within z 4 h)))
-
--- and it has room in 16
-pub narrow_fits : (z : ℤ) → (above z ≤ 4) × (below z ≤ 4) → SFits w16 z
-narrow_fits z h = sfits_of (omega (arith, mag_within z 4 h))

@@ -8,7 +8,6 @@ use Rattle.rules.specs.Values.{bit}
 use Rattle.rules.specs.declared.records.Record.{Record}
 use Rattle.rules.specs.declared.records.Record.TheVariants.{Gate, Cell}
 use Rattle.gates.specs.Rows.{row_of, times_row}
-use Rattle.gates.specs.declared.apart.Parts.{Parts}
 use Rattle.gates.specs.declared.apart.Variables.{Variables}
 
 -- a record and a row of coefficients over three variables make the same of every term
@@ -36,10 +35,6 @@ record_row (Cell byte x1 x2 x3) = coefficient byte
 unfoldable pub record_variables : Record → Variables
 record_variables (Gate x y) = record { x = variable x; y = variable y; z = 0 }
 record_variables (Cell byte x1 x2 x3) = record { x = x1; y = x2; z = x3 }
-
--- the variables of a record brought apart
-abbrev pub variables_in : Parts → Variables
-variables_in q = record { x = q.x; y = q.y; z = q.z }
 
 -- a record makes so many terms of every term, before like ones meet
 abbrev pub Making : Record → ℕ → Type 0

@@ -43,16 +43,14 @@ Tabled row n table = (i : ℕ) → i < n → get_or table i (pos 0) ≡ multipli
 abbrev pub Rows : ℕ → Type 0
 Rows n = (n ≡ 32) ⊎ (n ≡ 64)
 
--- where the row of a subset begins, and how far apart subsets stand that differ in its lowest variable alone
-pub record Lowest (start step : ℕ) : Type 0 where
-  pub variable : ℕ
+-- where the row of a subset begins whose lowest variable is the one at k
+pub record Lowest (start k : ℕ) : Type 0 where
   pub others : ℕ
-  pub low : variable < 3
-  pub is_step : step ≡ 2 ^ variable
-  pub is_start : start ≡ 8 * (others + 2 ^ variable)
+  pub low : k < 3
+  pub is_start : start ≡ 8 * (others + 2 ^ k)
   pub last : start < 64
-  pub lacks : bit others variable ≡ 0
-  pub none : (j : ℕ) → j < variable → bit others j ≡ 0
+  pub lacks : bit others k ≡ 0
+  pub none : (j : ℕ) → j < k → bit others j ≡ 0
 
 -- the coefficients where variable k is constant false (x is 0): those that put it in make nothing
 unfoldable pub leaving : ℕ → ℕ → (ℕ → ℤ) → ℕ → ℤ

@@ -1,10 +1,13 @@
 // A gate as multipliers: what each stream takes of a term.
-ghost use Rattle.std.specs.Prelude.{◌≡◌, cond, ℕ, ◌+◌, ◌-◌, ◌*◌, ◌<◌, ◌≤◌, eqb, pos, ◌+ℤ◌, length, get_or};
+ghost use Rattle.std.specs.Prelude.{◌≡◌, cond, ℕ, ◌+◌, ◌-◌, ◌*◌, ◌^◌, ◌<◌, ◌≤◌, pos, ◌+ℤ◌, length, get_or};
 ghost use Rattle.rules.specs.Cells.{above, below};
 ghost use Rattle.gates.specs.Apart.{Within};
 ghost use Rattle.gates.specs.Rows.{row_of, Tabled, Lowest, Rows};
 
+use crate::subsets::has;
+
 // The sum of two coefficients.
+#[tactic(auto, using(crate::proofs::Whole::sum_fits))]
 pub fn plus(a: i16, b: i16) -> i16
     requires { (above a ≤ 864) × (below a ≤ 864) × (above b ≤ 864) × (below b ≤ 864) }
     ensures { result ≡ a +ℤ b }
@@ -12,40 +15,36 @@ pub fn plus(a: i16, b: i16) -> i16
     a + b
 }
 
-// The multiplier at place i for a term that holds one variable more, from the row in front that does not hold it: nothing where the
-// stream puts it in (`there`), else with what puts it in, `step` places on.
-fn joined(table: &[i16], i: usize, there: usize, step: usize) -> i16
-    requires { (1 ≤ step) × (8 * step ≤ i) × (i < length table.now) × (i < 64) × ((j : ℕ) → j < i → (above (get_or table.now j (pos 0)) ≤ 864) × (below (get_or table.now j (pos 0)) ≤ 864)) }
-    ensures { result ≡ cond (eqb there 1) (pos 0) (get_or table.now (i - 8 * step) (pos 0) +ℤ get_or table.now (i - 8 * step + step) (pos 0)) }
+// The multiplier at place i for a term that holds the variable at k as well, from the row in front for one that does not hold it: nothing where
+// the stream puts it in (`there`), else with what puts it in.
+#[tactic(auto, using(words::proofs::Numbers::one_shifted))]
+fn holding(table: &[i16], i: usize, there: bool, k: usize) -> i16
+    requires { (k < 3) × (8 * 2 ^ k ≤ i) × (i < length table.now) × ((j : ℕ) → j < i → (above (get_or table.now j (pos 0)) ≤ 864) × (below (get_or table.now j (pos 0)) ≤ 864)) }
+    ensures { result ≡ cond there (pos 0) (get_or table.now (i - 8 * 2 ^ k) (pos 0) +ℤ get_or table.now (i - 8 * 2 ^ k + 2 ^ k) (pos 0)) }
 {
-    if there == 1 {
+    if there {
         return 0;
     }
+    let step = 1 << k;
     let at = i - 8 * step;
     plus(table[at], table[at + step])
 }
 
 // Writes the first row: a term that holds none of the variables is multiplied by the coefficients.
 fn put_first(row: &[i16], table: &mut [i16])
-    requires { (length row.now ≡ 8) × Within 108 (row_of row.now) × (8 ≤ length table.old) }
+    requires { (length row.now ≡ 8) × (8 ≤ length table.old) }
     ensures { Tabled (row_of row.now) 8 table.new }
 {
-    let mut u = 0;
-    while u < 8 {
-        table[u] = row[u];
-        u += 1;
-    }
+    table[..8].copy_from_slice(row);
 }
 
-// Writes the row that begins at `start`, behind all others: that of the terms whose lowest variable held is the one of `step`.
-fn put_next(row: &[i16], table: &mut [i16], start: usize, step: usize)
-    requires { Within 108 (row_of row.now) × (start + 8 ≤ length table.old) × Lowest start step × Tabled (row_of row.now) start table.old }
+// Writes the row that begins at `start`, behind all others: that of the terms whose lowest variable held is the one at k.
+fn put_next(row: &[i16], table: &mut [i16], start: usize, k: usize)
+    requires { Within 108 (row_of row.now) × (start + 8 ≤ length table.old) × Lowest start k × Tabled (row_of row.now) start table.old }
     ensures { Tabled (row_of row.now) (start + 8) table.new }
 {
-    let mut u = 0;
-    while u < 8 {
-        table[start + u] = joined(table, start + u, u / step % 2, step);
-        u += 1;
+    for u in 0..8 {
+        table[start + u] = holding(table, start + u, has(u, k), k);
     }
 }
 
@@ -54,10 +53,10 @@ fn put_third(row: &[i16], table: &mut [i16])
     requires { Within 108 (row_of row.now) × (length table.old ≡ 64) × Tabled (row_of row.now) 32 table.old }
     ensures { Tabled (row_of row.now) 64 table.new }
 {
-    put_next(row, table, 32, 4);
-    put_next(row, table, 40, 1);
-    put_next(row, table, 48, 2);
-    put_next(row, table, 56, 1);
+    put_next(row, table, 32, 2);
+    put_next(row, table, 40, 0);
+    put_next(row, table, 48, 1);
+    put_next(row, table, 56, 0);
 }
 
 // The multipliers of a gate, from its coefficients: four rows where there is no third variable, else eight.
@@ -66,9 +65,9 @@ pub fn multiplier_table(row: &[i16], table: &mut [i16])
     ensures { Tabled (row_of row.now) (length table.old) table.new }
 {
     put_first(row, table);
-    put_next(row, table, 8, 1);
-    put_next(row, table, 16, 2);
-    put_next(row, table, 24, 1);
+    put_next(row, table, 8, 0);
+    put_next(row, table, 16, 1);
+    put_next(row, table, 24, 0);
     if table.len() > 32 {
         put_third(row, table);
     }

@@ -2,23 +2,19 @@
 use mathlib.Core.Path.{◌≡◌, sym, ◌∙◌}
 use mathlib.Core.Bool.{Bool, true, ◌&&◌}
 use mathlib.Core.List.{List}
-use Prim.Native.Nat.{ℕ, zero, suc, ◌+◌, ◌*◌, ◌/◌, ◌%◌, ◌<◌, ◌≤◌}
+use Prim.Native.Nat.{ℕ, zero, suc, ◌+◌, ◌*◌, ◌<◌}
 use native.Mathlib.Nat.{add-zero}
 use native.Mathlib.Omega.{arith}
 use borrow.Author.Tests.{eqb-true}
 use lib.Dec.{eqb}
-use lib.IntN.{ℤ, pos, negsuc}
+use lib.IntN.{ℤ, pos}
 use lib.ListN.{get_or, drop}
 use lib.Seq.{get_or-drop, drop-drop}
-use lib.Signed.{mag}
-use mir.Syntax.{w8}
-use mir.Val.{to_z, of_z}
-use mir.Facts.{to_z-of_z}
 use Rattle.rules.specs.Each.{each, sum}
 use Rattle.rules.specs.Values.{bit}
-use Rattle.rules.specs.Cells.{above, below, lies_in, within, Row, coefficient}
+use Rattle.rules.specs.Cells.{above, below, lies_in, within, Row}
 use Rattle.rules.proofs.Indices.{both, each_at}
-use Rattle.rules.proofs.CellRule.{row_only, coefficient_small}
+use Rattle.rules.proofs.CellRule.{row_only}
 use Rattle.rows.specs.Rows.{Right}
 
 -- at a point, the sums over its subsets among the first eight entries differ by the truth bit of the byte
@@ -51,17 +47,3 @@ unfolding Right
 tested_right part high list e h low u l m =
     let row = row_there 16 (16 * part) list h low l in
     rw e (sym (get_or-drop (low * 8) list u (pos 0)) ∙ row_only (16 * part + low) (λ v. get_or (drop (low * 8) list) v (pos 0)) row u m)
-
--- a whole number that lies at most 4 above or below 0 has a small magnitude
-small : (z : ℤ) → above z ≤ 4 → below z ≤ 4 → mag z < 128
-unfolding above below
-small (pos k) h l = omega arith
-small (negsuc k) h l = omega arith
-
--- what is read of the right part of the table, as a signed byte, is the coefficient
-pub right_read : (list : List ℤ) (byte from u : ℕ) → Right (byte / 16) list → from ≡ byte % 16 * 8 → u < 8 → to_z w8 (of_z w8 (get_or list (from + u) (pos 0))) ≡ coefficient byte u
-unfolding Right
-right_read list byte from u right e l =
-    let bounds = coefficient_small byte u l in
-    let whole : 16 * (byte / 16) + byte % 16 ≡ byte = omega arith in
-    rw (e, right (byte % 16) u (omega arith) l, whole) (to_z-of_z {w = w8} (record { sfits = small (coefficient byte u) bounds.0 bounds.1 }))

@@ -1,32 +1,32 @@
--- A row written entry by entry.
-use mathlib.Core.Path.{◌≡◌, refl, ◌∙◌}
-use mathlib.Core.List.{List}
-use mathlib.Core.Logic.{◌⊎◌, inl, inr, ⊎_elim}
-use Prim.Native.Nat.{ℕ, ◌+◌, ◌<◌, ◌≤◌}
-use native.Mathlib.Omega.{arith}
-use lib.IntN.{ℤ, pos}
-use lib.ListN.{length, get_or, set}
-use lib.Seq.{get_or-set_same, get_or-set_other}
+-- A row copied out of its part of the table.
+use Rattle.std.proofs.Common.{◌≡◌, ℕ, ◌+◌, ◌*◌, ◌/◌, ◌%◌, ◌<◌, ◌≤◌, List, length, get_or, take, drop, get_or-take, get_or-drop, ℤ, pos, ⊎_elim, ◌∙◌, arith}
+use Rattle.std.proofs.lemmas.List.{places}
+use borrow.Rule.Slice.PartMut.{put_mid}
 use Rattle.rules.specs.Cells.{coefficient}
-use Rattle.rules.proofs.Indices.{below_suc}
-use Rattle.rows.specs.Rows.{Written}
+use Rattle.rows.specs.Rows.{Right, Written}
 
--- nothing is written yet
-pub none_written : (byte at : ℕ) (list : List ℤ) → Written byte at 0 list list
-none_written byte at list = record { inside = λ i l. absurd (omega arith); outside = λ i o. refl }
+-- the row of a byte stands in the right part of the table
+pub row_in : (list : List ℤ) (byte u : ℕ) → Right (byte / 16) list → u < 8 → get_or list (byte % 16 * 8 + u) (pos 0) ≡ coefficient byte u
+unfolding Right
+row_in list byte u right l =
+    let whole : 16 * (byte / 16) + byte % 16 ≡ byte = omega arith in
+    right (byte % 16) u (omega arith) l ∙ rw whole
 
--- the next coefficient is written behind the others
-pub one_written : (byte at n : ℕ) (entry list : List ℤ) (z : ℤ) → Written byte at n entry list → at + n < length list → z ≡ coefficient byte n → Written byte at (n + 1) entry (set list (at + n) z)
-one_written byte at n entry list z w fits e = record { inside = inside; outside = outside }
-  where
-    kept : (i : ℕ) → (i ≡ at + n → ⊥) → get_or (set list (at + n) z) i (pos 0) ≡ get_or list i (pos 0)
-    kept i other = get_or-set_other list (at + n) i z (pos 0) other
+-- entries written over k others
+module _ (list written : List ℤ) (at k : ℕ) (l : at + k ≤ length list) (e : length written ≡ k) where
+  over : (i : ℕ) → i < k → get_or (put_mid at k list written) (at + i) (pos 0) ≡ get_or written i (pos 0)
+  over i h = grind (arith, places)
 
-    inside : (i : ℕ) → i < n + 1 → get_or (set list (at + n) z) (at + i) (pos 0) ≡ coefficient byte i
-    inside i l =
-        ⊎_elim (λ (same : i ≡ n). rw same (get_or-set_same list (at + n) z (pos 0) fits ∙ e)) (λ (less : i < n). kept (at + i) (λ f. omega arith) ∙ w.inside i less)
-        (below_suc i n (omega arith))
+  before : (i : ℕ) → i < at → get_or (put_mid at k list written) i (pos 0) ≡ get_or list i (pos 0)
+  before i h = grind (arith, places)
 
-    outside : (i : ℕ) → (i < at) ⊎ (at + (n + 1) ≤ i) → get_or (set list (at + n) z) i (pos 0) ≡ get_or entry i (pos 0)
-    outside i o =
-        ⊎_elim (λ (l : i < at). kept i (λ f. omega arith) ∙ w.outside i (inl l)) (λ (l : at + (n + 1) ≤ i). kept i (λ f. omega arith) ∙ w.outside i (inr (omega arith))) o
+  behind : (i : ℕ) → at + k ≤ i → get_or (put_mid at k list written) i (pos 0) ≡ get_or list i (pos 0)
+  behind i h = grind (arith, places)
+
+-- eight entries copied
+pub row_written : (byte at from : ℕ) (part row eight : List ℤ) → Right (byte / 16) part → from ≡ byte % 16 * 8 → length eight ≡ 8 → at + 8 ≤ length row → eight ≡ take 8 (drop from part)
+    → Written byte at 8 row (put_mid at 8 row eight)
+row_written byte at from part row eight right e f l q = record {
+  inside = λ i h. over row eight at 8 l f i h ∙ rw (q, get_or-take, get_or-drop, e) (row_in part byte i right h);
+  outside = λ i o. ⊎_elim (before row eight at 8 l f i) (behind row eight at 8 l f i) o;
+}

@@ -11,11 +11,7 @@ pub fn put_row(byte: u32, row: &mut [i8], at: usize)
 {
     let rows = part(byte / 16);
     let from = start(byte);
-    let mut subset = 0;
-    while subset < 8 {
-        row[at + subset] = rows[from + subset];
-        subset += 1;
-    }
+    row[at..at + 8].copy_from_slice(&rows[from..from + 8]);
 }
 
 // Where the row of a truth byte begins in its part of the table.

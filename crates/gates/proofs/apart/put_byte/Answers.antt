@@ -1,6 +1,5 @@
--- The row of the byte, in 16 bits.
-use mathlib.Core.Path.{◌∙◌}
-use native.Mathlib.Nat.{zero-add}
+-- The coefficients of a byte are small.
+use Rattle.std.proofs.Common.{zero-add}
 use Rattle.rules.proofs.CellRule.{coefficient_small}
 use Rattle.gates.specs.Rows.{row_of}
 use Rattle.gates.proofs.apart.put_byte.Goals as goal
@@ -10,8 +9,3 @@ unfolding row_of
 widen-requires c =
     let w = c.put_row in
     (w.auto.row, c.requires.0, λ u l. rw (rw zero-add at (w.ensures.inside u l)) (coefficient_small c.args.byte u l))
-
-pub returns : goal.returns
-unfolding row_of
-returns c =
-    λ u l. c.widen.ensures u l ∙ rw zero-add at (c.put_row.ensures.inside u l)

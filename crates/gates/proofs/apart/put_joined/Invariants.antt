@@ -1,13 +1,7 @@
 -- One place after the other, from such as stand behind it.
-use mathlib.Core.Path.{◌≡◌}
-use Prim.Native.Nat.{◌-◌, ◌≤◌}
-use lib.ListN.{length}
 use Rattle.gates.specs.Rows.{row_of, joining}
 use Rattle.gates.proofs.Written.{Writing}
 use Rattle.gates.proofs.apart.put_joined.Given as goal
 
 abbrev pub invariant-loop-u : goal.invariant-loop-u
-invariant-loop-u l = (l.u ≤ 8) × (length l.row ≡ 8) × Writing (joining l.i l.j (row_of l.initial.row)) (row_of l.initial.row) l.u l.row
-
-abbrev pub decreases-loop-u : goal.decreases-loop-u
-decreases-loop-u l = 8 - l.u
+invariant-loop-u l = Writing (joining l.i l.j (row_of l.initial.row)) (row_of l.initial.row) l.u l.row

@@ -18,20 +18,12 @@ module _ (z : Sizes) (store scratch : List ℕ) (k : Place) (m : Midway z store 
   -- the store is at its end: a new term is left
   pub head_end : going_on z k ≡ true → k.at ≡ k.stop → z.n ≤ k.at → Head z (old_terms z store) (new_terms z scratch) k
   head_end g e l = record {
-    some = (still_going z k g).1 (omega (arith, m.task.end_in));
+    some = still_going z k g (omega (arith, m.task.end_in));
     all = λ d. omega (arith, stop_in z store scratch scratch k m);
     under = λ d. absurd (omega arith);
   }
 
   module _ (n : k.at ≡ k.stop → ⊥) where
-    -- no new term is left: all up to the next one that holds v
-    pub stretch_rest : k.used ≡ z.made → Stretch z (old_terms z store) (new_terms z scratch) k k.stop
-    stretch_rest e = record {
-      some = omega (arith, n, m.state.stop.low);
-      within = omega arith;
-      above = λ d. absurd (omega arith);
-    }
-
     module _ (v : k.used ≡ z.made → ⊥) where
       -- a new term is left
       pub new_left : k.used < z.made

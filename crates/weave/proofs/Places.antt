@@ -1,5 +1,5 @@
 -- Laws of places among terms.
-use mathlib.Core.Path.{◌≡◌, refl, ap}
+use mathlib.Core.Path.{◌≡◌, refl}
 use mathlib.Core.Bool.{Bool, true, false}
 use mathlib.Core.List.{List, [], ◌∷◌}
 use Prim.Native.Nat.{ℕ, zero, suc, ◌+◌, ◌*◌, ◌^◌, ◌<◌, ◌≤◌}
@@ -7,12 +7,15 @@ use native.Mathlib.Omega.{arith}
 use borrow.Author.Tests.{ltb-true, ltb-false}
 use lib.Dec.{ltb}
 use lib.ListN.{length, get_or}
+use Rattle.std.specs.Ordering.{nat_cmp}
 use Rattle.rules.specs.Values.{bit}
-use Rattle.rules.specs.Polynomial.{Term, Polynomial, Below}
+use Rattle.rules.specs.Polynomial.{Polynomial, Below}
 use Rattle.rules.proofs.Bits.{bit_digit}
 use Rattle.words.specs.Numbers.{num, words_at}
-use Rattle.words.specs.Stored.{decoded}
-use Rattle.words.proofs.Stored.{length_decoded, decoded_at, stride_in}
+use Rattle.words.specs.Listed.{terms_of, set_of}
+use Rattle.words.specs.declared.listed.Terms.{Terms}
+use Rattle.words.proofs.Numbers.{order_short}
+use Rattle.words.proofs.Stored.{length_terms, decoded_set, stride_in}
 use Rattle.weave.specs.Seeking.{Free, Above, Sought}
 
 -- two stretches without v, one behind the other
@@ -28,10 +31,6 @@ pub free_one : (v : ℕ) (p : Polynomial) (i to : ℕ) → to ≡ i + 1 → (bit
 free_one v p i to t n j f l =
     let e : j ≡ i = omega arith in
     rw e (omega (arith, n, bit_digit (get_or p i (0, 0)).1 v))
-
--- the set of the i-th term
-pub decoded_set : (w n i : ℕ) (s : List ℕ) → i < n → (get_or (decoded w n s) i (0, 0)).1 ≡ num (words_at s (i * (w + 1) + 1) w)
-decoded_set w n i s h = ap (λ (t : Term). t.1) (decoded_at w n i s h)
 
 -- every set is below the bound
 pub set_below : (b : ℕ) (p : Polynomial) (i : ℕ) → Below b p → i < length p → (get_or p i (0, 0)).1 < b
@@ -56,24 +55,24 @@ above_to b p s from i h l a j f u = go (ltb j i) refl
         let q : j ≡ i = omega (arith, ltb-false j i e) in
         rw q a
 
-module _ (store : List ℕ) (n w k from to : ℕ) (others : List ℕ) (t : ℕ) (h : Sought store n w k from to others t) where
+-- the order of the words that two sets use is their order
+pub set_order : (terms : Terms) (k i : ℕ) (others : List ℕ) (t : ℕ)
+    → (i < terms.count) × (k ≤ terms.width) × (t + terms.width ≤ length others) × (set_of terms i < 2 ^ (64 * k)) × (num (words_at others t terms.width) < 2 ^ (64 * k))
+    → nat_cmp (num (words_at terms.words.now (i * (terms.width + 1) + 1) k)) (num (words_at others t k)) ≡ nat_cmp (set_of terms i) (num (words_at others t terms.width))
+set_order terms k i others t h =
+    let d = decoded_set terms.width terms.count i terms.words.now h.0 in
+    rw d (order_short terms.words.now others (i * (terms.width + 1) + 1) t terms.width k (omega (arith, stride_in i terms.count terms.width (length terms.words.now) h.0 terms.within)) h.2 h.1 (rw d at h.3) h.4)
+
+module _ (terms : Terms) (k from to : ℕ) (others : List ℕ) (t : ℕ) (h : Sought terms k from to others t) where
   -- the place that is looked at lies inside, and its set uses k words
-  pub inside : (i : ℕ) → i < to → (i * (w + 1) + (w + 1) ≤ length store) × (k ≤ w) × (t + w ≤ length others)
-      × (num (words_at store (i * (w + 1) + 1) w) < 2 ^ (64 * k)) × (num (words_at others t w) < 2 ^ (64 * k))
+  pub inside : (i : ℕ) → i < to → (i < terms.count) × (k ≤ terms.width) × (t + terms.width ≤ length others)
+      × (set_of terms i < 2 ^ (64 * k)) × (num (words_at others t terms.width) < 2 ^ (64 * k))
   inside i l =
-      let b = set_below (2 ^ (64 * k)) (decoded w n store) i h.falls (omega (arith, h.within, length_decoded w n store)) in
-      (stride_in i n w (length store) (omega (arith, h.within)) h.room, h.short, h.there, (rw (decoded_set w n i store (omega (arith, h.within))) at b), h.low)
+      (omega (arith, h.within), h.short, h.there, set_below (2 ^ (64 * k)) (terms_of terms) i h.falls (omega (arith, h.within, length_terms terms)), h.low)
 
   -- its set is above the one looked for, and so are all before it
-  pub over_yes : (i : ℕ) → i < to → ltb (num (words_at others t w)) (num (words_at store (i * (w + 1) + 1) w)) ≡ true
-      → Above (decoded w n store) (num (words_at others t w)) from (i + 1)
+  pub over_yes : (i : ℕ) → i < to → ltb (num (words_at others t terms.width)) (set_of terms i) ≡ true
+      → Above (terms_of terms) (num (words_at others t terms.width)) from (i + 1)
   over_yes i l e =
-      let a = ltb-true (num (words_at others t w)) (num (words_at store (i * (w + 1) + 1) w)) e in
-      above_to (2 ^ (64 * k)) (decoded w n store) (num (words_at others t w)) from i h.falls (omega (arith, h.within, length_decoded w n store))
-      (rw (decoded_set w n i store (omega (arith, h.within))) a)
-
-  -- its set is not above it
-  pub over_no : (i : ℕ) → i < to → ltb (num (words_at others t w)) (num (words_at store (i * (w + 1) + 1) w)) ≡ false
-      → (get_or (decoded w n store) i (0, 0)).1 ≤ num (words_at others t w)
-  over_no i l e =
-      rw (decoded_set w n i store (omega (arith, h.within))) (ltb-false (num (words_at others t w)) (num (words_at store (i * (w + 1) + 1) w)) e)
+      above_to (2 ^ (64 * k)) (terms_of terms) (num (words_at others t terms.width)) from i h.falls (omega (arith, h.within, length_terms terms))
+      (ltb-true (num (words_at others t terms.width)) (set_of terms i) e)

@@ -45,48 +45,78 @@ top_over m k [] l u = absurd (omega arith)
 top_over m zero (x ∷ xs) l u = omega arith
 top_over m (suc k) (x ∷ xs) l u = omega (arith, scaled k m, top_over m k xs (omega arith) u)
 
+-- a number is below what its words can say
+num_below : (xs : List ℕ) → Words xs → num xs < 2 ^ (64 * length xs)
+unfolding num
+num_below [] f = omega arith
+num_below (x ∷ xs) f = omega (arith, f.0, step (64 * suc (length xs)) (64 * length xs) (omega arith), num_below xs f.1)
+
 -- the first set, in words 1 to w
 module _ (s : List ℕ) (w : ℕ) (h : w + 1 ≤ length s) where
-  -- its highest word is 0: it uses one less
-  pub word_passed : (k j : ℕ) → k ≡ 1 + j → k ≤ w → ((n : ℕ) → get_or s n 0 < 2 ^ 64) → num (words_at s 1 w) < 2 ^ (64 * k) → get_or s k 0 ≡ 0 → num (words_at s 1 w) < 2 ^ (64 * j)
-  word_passed k j e l f u z =
-      let z' : get_or (words_at s 1 w) j 0 < 1 = rw (get_or_words_at s 1 w j (omega arith), ← e, z) (omega arith) in
-      rw mul-one at (top_under 1 j (words_at s 1 w) (words_from s 1 w (omega arith) f) (omega (arith, length_words_at s 1 w (omega arith))) (rw e at u) z')
+  first : List ℕ
+  first = words_at s 1 w
 
-  -- a word that is not 0: it is not below that word's worth
-  pub word_stops : (k j b : ℕ) → k ≡ 1 + j → k ≤ w → b ≤ 64 * j → (get_or s k 0 ≡ 0 → ⊥) → 2 ^ b ≤ num (words_at s 1 w)
-  word_stops k j b e l u z =
-      let z' : 1 ≤ get_or (words_at s 1 w) j 0 = rw (get_or_words_at s 1 w j (omega arith), ← e) (omega (arith, z)) in
-      let o : 2 ^ (64 * j) ≤ num (words_at s 1 w) = rw mul-one at (top_over 1 j (words_at s 1 w) (omega (arith, length_words_at s 1 w (omega arith))) z') in
+  long : length first ≡ w
+  unfolding first
+  long = length_words_at s 1 w (omega arith)
+
+  word : (j : ℕ) → j < w → get_or first j 0 ≡ get_or s (j + 1) 0
+  unfolding first
+  word j l = get_or_words_at s 1 w j l ∙ ap (λ (n : ℕ). get_or s n 0) (omega arith)
+
+  -- a word that is not 0: the set is not below that word's worth
+  pub word_stops : (j b : ℕ) → j < w → b ≤ 64 * j → (get_or s (j + 1) 0 ≡ 0 → ⊥) → 2 ^ b ≤ num (words_at s 1 w)
+  unfolding first
+  word_stops j b l u z =
+      let y : 1 ≤ get_or first j 0 = rw (word j l) (omega (arith, z)) in
+      let o : 2 ^ (64 * j) ≤ num first = rw mul-one at (top_over 1 j first (omega (arith, long)) y) in
       omega (arith, pow_mono {i = b} {j = 64 * j} u)
 
-  -- v's word decides, where it is the highest
-  pub word_decides : (v : ℕ) → v < 64 * w → ((n : ℕ) → get_or s n 0 < 2 ^ 64) → num (words_at s 1 w) < 2 ^ (64 * (1 + v / 64))
-      → leb (get_or s (1 + v / 64) 0 / 2 ^ (v % 64)) 1 ≡ ltb (num (words_at s 1 w)) (2 ^ (v + 1))
-  word_decides v l f u = go (leb (get_or s (1 + v / 64) 0 / 2 ^ (v % 64)) 1) refl
-    where
-      x : ℕ
-      x = get_or s (1 + v / 64) 0
+  module _ (f : (n : ℕ) → get_or s n 0 < 2 ^ 64) where
+    fits : Words first
+    unfolding first
+    fits = words_from s 1 w (omega arith) f
 
-      at : get_or (words_at s 1 w) (v / 64) 0 ≡ x
-      at = get_or_words_at s 1 w (v / 64) (omega arith)
+    -- it fits its words
+    pub first_low : num (words_at s 1 w) < 2 ^ (64 * w)
+    unfolding first
+    first_low = rw long at (num_below first fits)
 
-      there : v / 64 < length (words_at s 1 w)
-      there = omega (arith, length_words_at s 1 w (omega arith))
+    -- a word is 0, and all above it: the set uses no more than those below it
+    pub word_passed : (j : ℕ) → j < w → num (words_at s 1 w) < 2 ^ (64 * (j + 1)) → get_or s (j + 1) 0 ≡ 0 → num (words_at s 1 w) < 2 ^ (64 * j)
+    unfolding first
+    word_passed j l u z =
+        let y : get_or first j 0 < 1 = rw (word j l, z) (omega arith) in
+        let e : j + 1 ≡ 1 + j = omega arith in
+        rw mul-one at (top_under 1 j first fits (omega (arith, long)) (rw e at u) y)
 
-      worth : 2 ^ (64 * (v / 64)) * (2 * 2 ^ (v % 64)) ≡ 2 ^ (v + 1)
-      worth =
-          let e : 64 * (v / 64) + (1 + v % 64) ≡ v + 1 = omega arith in
-          ap (λ (n : ℕ). 2 ^ (64 * (v / 64)) * n) (sym (pow-add 2 1 (v % 64))) ∙ sym (pow-add 2 (64 * (v / 64)) (1 + v % 64)) ∙ ap (λ (n : ℕ). 2 ^ n) e
+    -- v's word decides, where it is the highest
+    pub word_decides : (v : ℕ) → v < 64 * w → num (words_at s 1 w) < 2 ^ (64 * (1 + v / 64))
+        → leb (get_or s (1 + v / 64) 0 / 2 ^ (v % 64)) 1 ≡ ltb (num (words_at s 1 w)) (2 ^ (v + 1))
+    unfolding first
+    word_decides v l u = go (leb (x / 2 ^ (v % 64)) 1) refl
+      where
+        x : ℕ
+        x = get_or s (1 + v / 64) 0
 
-      go : (e : Bool) → leb (x / 2 ^ (v % 64)) 1 ≡ e → e ≡ ltb (num (words_at s 1 w)) (2 ^ (v + 1))
-      go true e =
-          let q : x < 2 * 2 ^ (v % 64) = (div-lt_iff_lt-mul (pow_pos (v % 64))).0 (omega (arith, leb-true (x / 2 ^ (v % 64)) 1 e)) in
-          sym (lt-ltb (num (words_at s 1 w)) (2 ^ (v + 1))
-          (rw worth at (top_under (2 * 2 ^ (v % 64)) (v / 64) (words_at s 1 w) (words_from s 1 w (omega arith) f) there u (rw at q))))
-      go false e =
-          let q : 2 * 2 ^ (v % 64) ≤ x = (le-div_iff_mul-le (pow_pos (v % 64))).0 (omega (arith, leb-false (x / 2 ^ (v % 64)) 1 e)) in
-          sym (le-ltb (num (words_at s 1 w)) (2 ^ (v + 1)) (rw worth at (top_over (2 * 2 ^ (v % 64)) (v / 64) (words_at s 1 w) there (rw at q))))
+        at : get_or first (v / 64) 0 ≡ x
+        at = word (v / 64) (omega arith) ∙ ap (λ (n : ℕ). get_or s n 0) (omega arith)
+
+        there : v / 64 < length first
+        there = omega (arith, long)
+
+        worth : 2 ^ (64 * (v / 64)) * (2 * 2 ^ (v % 64)) ≡ 2 ^ (v + 1)
+        worth =
+            let e : 64 * (v / 64) + (1 + v % 64) ≡ v + 1 = omega arith in
+            ap (λ (n : ℕ). 2 ^ (64 * (v / 64)) * n) (sym (pow-add 2 1 (v % 64))) ∙ sym (pow-add 2 (64 * (v / 64)) (1 + v % 64)) ∙ ap (λ (n : ℕ). 2 ^ n) e
+
+        go : (e : Bool) → leb (x / 2 ^ (v % 64)) 1 ≡ e → e ≡ ltb (num (words_at s 1 w)) (2 ^ (v + 1))
+        go true e =
+            let q : x < 2 * 2 ^ (v % 64) = (div-lt_iff_lt-mul (pow_pos (v % 64))).0 (omega (arith, leb-true (x / 2 ^ (v % 64)) 1 e)) in
+            sym (lt-ltb (num (words_at s 1 w)) (2 ^ (v + 1)) (rw worth at (top_under (2 * 2 ^ (v % 64)) (v / 64) first fits there u (rw at q))))
+        go false e =
+            let q : 2 * 2 ^ (v % 64) ≤ x = (le-div_iff_mul-le (pow_pos (v % 64))).0 (omega (arith, leb-false (x / 2 ^ (v % 64)) 1 e)) in
+            sym (le-ltb (num (words_at s 1 w)) (2 ^ (v + 1)) (rw worth at (top_over (2 * 2 ^ (v % 64)) (v / 64) first there (rw at q))))
 
 -- the first set is below the bound
 pub first_below : (b w n : ℕ) (s : List ℕ) → 0 < n → Below b (decoded w n s) → num (words_at s 1 w) < b

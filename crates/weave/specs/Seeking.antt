@@ -1,10 +1,11 @@
 -- Places among terms whose sets fall.
 use Rattle.std.specs.Prelude.{◌≡◌, List, ℕ, ◌+◌, ◌-◌, ◌*◌, ◌^◌, ◌<◌, ◌≤◌, length, get_or}
+use Rattle.std.specs.declared.ops.Range.{Range}
 use Rattle.rules.specs.Values.{bit}
 use Rattle.rules.specs.Polynomial.{Polynomial, Below}
+use Rattle.words.specs.Listed.{terms_of}
 use Rattle.words.specs.Numbers.{num, words_at}
-use Rattle.words.specs.Stored.{decoded}
-use Rattle.weave.specs.declared.seeking.Range.{Range}
+use Rattle.words.specs.declared.listed.Terms.{Terms}
 
 -- the sets fall, and use no more than r of their w words
 pub record Uses (w : ℕ) (p : Polynomial) (r : ℕ) : Type 0 where
@@ -33,17 +34,15 @@ pub record Last (v : ℕ) (p : Polynomial) (r : ℕ) : Type 0 where
 abbrev pub Above : Polynomial → ℕ → ℕ → ℕ → Type 0
 Above p s from to = (i : ℕ) → from ≤ i → i < to → s < (get_or p i (0, 0)).1
 
--- what a search among n terms asks: their sets fall and use k of w words, and so does the set looked for
-pub record Sought (store : List ℕ) (n w k from to : ℕ) (others : List ℕ) (t : ℕ) : Type 0 where
-  pub room : n * (w + 1) ≤ length store
-  pub narrow : w ≤ 16
-  pub some : 0 < w
-  pub short : k ≤ w
+-- what a search among terms asks: their sets fall and use k of their words, and so does the set looked for
+pub record Sought (terms : Terms) (k from to : ℕ) (others : List ℕ) (t : ℕ) : Type 0 where
+  pub some : 0 < terms.width
+  pub short : k ≤ terms.width
   pub ordered : from ≤ to
-  pub within : to ≤ n
-  pub falls : Below (2 ^ (64 * k)) (decoded w n store)
-  pub there : t + w ≤ length others
-  pub low : num (words_at others t w) < 2 ^ (64 * k)
+  pub within : to ≤ terms.count
+  pub falls : Below (2 ^ (64 * k)) (terms_of terms)
+  pub there : t + terms.width ≤ length others
+  pub low : num (words_at others t terms.width) < 2 ^ (64 * k)
 
 -- r is the first place from `from` to `to` whose set is not above s, or `to`
 pub record Cut (p : Polynomial) (s from to r : ℕ) : Type 0 where
@@ -52,10 +51,10 @@ pub record Cut (p : Polynomial) (s from to r : ℕ) : Type 0 where
   pub above : Above p s from r
   pub under : r < to → (get_or p r (0, 0)).1 ≤ s
 
--- that place is from r.low to r.high
-pub record Bracket (p : Polynomial) (s from to : ℕ) (r : Range) : Type 0 where
-  pub low : from ≤ r.low
-  pub ordered : r.low ≤ r.high
-  pub high : r.high ≤ to
-  pub above : Above p s from r.low
-  pub under : r.high < to → (get_or p r.high (0, 0)).1 ≤ s
+-- that place is from r.start to r.end
+pub record Bracket (p : Polynomial) (s from to : ℕ) (r : Range ℕ) : Type 0 where
+  pub low : from ≤ r.start
+  pub ordered : r.start ≤ r.end
+  pub high : r.end ≤ to
+  pub above : Above p s from r.start
+  pub under : r.end < to → (get_or p r.end (0, 0)).1 ≤ s

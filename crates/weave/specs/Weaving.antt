@@ -1,5 +1,5 @@
 -- The weave of the terms that do not hold v with new terms: what it asks, how far it is, and what it leaves.
-use Rattle.std.specs.Prelude.{◌≡◌, Bool, false, cond, ◌&&◌, ◌||◌, List, [], ◌∷◌, ◌++◌, ℕ, ◌+◌, ◌-◌, ◌*◌, ◌^◌, ◌<◌, ◌≤◌, ltb, leb, eqb, length, get_or, drop, replicate}
+use Rattle.std.specs.Prelude.{◌≡◌, Bool, false, cond, ◌||◌, List, [], ◌∷◌, ◌++◌, ℕ, ◌+◌, ◌-◌, ◌*◌, ◌^◌, ◌<◌, ◌≤◌, Option, None, Some, option_map, MatchOption, ltb, eqb, length, get_or, drop}
 use Rattle.rules.specs.Values.{bit}
 use Rattle.rules.specs.Polynomial.{Polynomial, Below, Coefficients, gather}
 use Rattle.words.specs.Stored.{decoded}
@@ -43,32 +43,27 @@ pub record Task (z : Sizes) (store scratch : List ℕ) : Type 0 where
   pub new_falls : Below (2 ^ (64 * z.k)) (new_terms z scratch)
   pub new_coefficients : Coefficients (2 ^ z.l) (new_terms z scratch)
 
--- how far the weave of p without v and of q is: what is written, and what is left of both; or there is no room
+-- how far the weave of p without v and of q is: what is written, and what is left of both
 pub record State (z : Sizes) (p q : Polynomial) (k : Place) (out : Polynomial) : Type 0 where
   pub stop : Stop z.v p k.at k.stop
   pub used : k.used ≤ length q
   pub counted : length out ≡ k.out
-  pub most : k.out ≤ z.limit + 1
-  pub going : k.out ≤ z.limit → Merging (2 ^ z.l) (2 ^ (64 * z.k)) 2 (without z.v p ++ q) out (two (without z.v (drop k.at p)) (drop k.used q))
-  pub full : z.limit < k.out → z.limit < length (gather (2 ^ z.l) (without z.v p ++ q))
+  pub most : k.out ≤ z.limit
+  pub going : Merging (2 ^ z.l) (2 ^ (64 * z.k)) 2 (without z.v p ++ q) out (two (without z.v (drop k.at p)) (drop k.used q))
 
--- the polynomial q in two parts: `out`, and behind it the terms of p from r.at on; or there is no room, since q has more than `limit`
--- terms
-pub record Joined (limit : ℕ) (q p : Polynomial) (r : Parts) (out : Polynomial) : Type 0 where
-  pub within : r.at ≤ length p
-  pub most : r.out ≤ limit + 1
-  pub fits : r.out ≤ limit → out ++ drop r.at p ≡ q
-  pub full : limit < r.out → limit < length q
-  pub none_left : limit < r.out → r.at ≡ length p
+-- the polynomial q in two parts: the terms written, and behind them the terms of p from `at` on; there is no room where q has more than
+-- `limit` terms
+abbrev pub Joined : ℕ → ℕ → Polynomial → Polynomial → Option Parts → List ℕ → Type 0
+Joined w limit q p r d' =
+    MatchOption r (limit < length q) (λ parts. (parts.out ≤ limit) × (parts.at ≤ length p) × (decoded w parts.out d' ++ drop parts.at p ≡ q))
 
--- what the place k of the weave becomes at its end: where there is no room, what is written is cleared
-pub record Ended (z : Sizes) (k : Place) (scratch : List ℕ) (r : Parts) (scratch' : List ℕ) : Type 0 where
-  pub few : k.out ≤ z.limit → (r ≡ record { out = k.out; at = k.at }) × (scratch' ≡ scratch)
-  pub many : z.limit < k.out → (r ≡ record { out = z.limit + 1; at = z.n }) × (scratch' ≡ replicate (z.limit * (z.w + 1)) 0 ++ drop (z.limit * (z.w + 1)) scratch)
+-- how many terms are written
+abbrev pub written : Option Parts → Option ℕ
+written r = option_map (λ parts. parts.out) r
 
--- there is room, and a new term or one that holds v is left
+-- a new term or one that holds v is left
 unfoldable pub going_on : Sizes → Place → Bool
-going_on z k = leb k.out z.limit && (ltb k.at z.end || ltb k.used z.made)
+going_on z k = ltb k.at z.end || ltb k.used z.made
 
 -- the terms that are left
 abbrev pub left : Sizes → Place → ℕ
@@ -82,7 +77,6 @@ meeting p q k = cond (ltb k.at k.stop) (eqb (get_or p k.at (0, 0)).1 (get_or q k
 pub record Midway (z : Sizes) (store scratch : List ℕ) (k : Place) : Type 0 where
   pub task : Task z store scratch
   pub state : State z (old_terms z store) (new_terms z scratch) k (decoded z.w k.out scratch)
-  pub fits : k.out ≤ z.limit
 
 -- the next new term is to be taken: no term of the store that is left and does not hold v is above it
 pub record Head (z : Sizes) (p q : Polynomial) (k : Place) : Type 0 where
@@ -97,8 +91,17 @@ pub record Stretch (z : Sizes) (p q : Polynomial) (k : Place) (to : ℕ) : Type 
   pub above : k.used < z.made → Above p (get_or q k.used (0, 0)).1 k.at to
 
 -- a turn took the weave on from k to r
-pub record Turned (z : Sizes) (store scratch : List ℕ) (k r : Place) (scratch' : List ℕ) : Type 0 where
+pub record Onward (z : Sizes) (store scratch : List ℕ) (k r : Place) (scratch' : List ℕ) : Type 0 where
   pub state : State z (old_terms z store) (new_terms z scratch) r (decoded z.w r.out scratch')
-  pub behind : Behind z.w z.limit r.out scratch scratch'
+  pub behind : Behind z.w z.limit (Some r.out) scratch scratch'
   pub grows : k.out ≤ r.out
   pub fewer : left z r < left z k
+
+-- there is no room for both lists: gathered they have more than `limit` terms
+pub record Full (z : Sizes) (store scratch scratch' : List ℕ) : Type 0 where
+  pub full : z.limit < length (gather (2 ^ z.l) (without z.v (old_terms z store) ++ new_terms z scratch))
+  pub behind : Behind z.w z.limit None scratch scratch'
+
+-- a turn took the weave on from k, or found that there is no room
+abbrev pub Turned : Sizes → List ℕ → List ℕ → Place → Option Place → List ℕ → Type 0
+Turned z store scratch k r scratch' = MatchOption r (Full z store scratch scratch') (λ place. Onward z store scratch k place scratch')

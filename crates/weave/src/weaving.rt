@@ -4,12 +4,12 @@
 ghost use Rattle.std.specs.Prelude.{◌≡◌, true, ◌++◌, ◌+◌, ◌*◌, ◌^◌, ◌<◌, ◌≤◌, length};
 ghost use Rattle.rules.specs.Polynomial.{gather};
 ghost use Rattle.words.specs.Numbers.{words_at};
-ghost use Rattle.words.specs.Stored.{decoded};
 ghost use Rattle.weave.specs.Written.{Emitted, Kept};
-ghost use Rattle.weave.specs.Weaving.{Task, Midway, Head, Stretch, Turned, Joined, Ended, going_on, meeting, without, old_terms, new_terms};
+ghost use Rattle.weave.specs.Weaving.{Task, Midway, Head, Stretch, Turned, Joined, going_on, meeting, without, written, old_terms, new_terms};
 
 use crate::seeking::{above, equal, holding};
 use words::coefficients::sum;
+use words::listed::Terms;
 
 // What is woven: n terms of a store, none of which holds v from `end` on, and as many new ones as were made. A set has w words and
 // uses k; a coefficient has l bits.
@@ -34,27 +34,39 @@ pub struct Place {
     pub out: usize,
 }
 
-// The result in two parts: `out` terms in front of scratch, and behind them the store's from the `at`-th on. More than the limit in
-// scratch means that there is no room.
+// The result in two parts: `out` terms in front of scratch, and behind them the store's from the `at`-th on.
 #[derive(Clone, Copy)]
 pub struct Parts {
     pub out: usize,
     pub at: usize,
 }
 
-// Writes the term of c and the set at word h as the o-th, unless c is 0. The number of terms then; limit + 1 without room.
-fn emit(scratch: &mut [u64], h: usize, w: usize, o: usize, limit: usize, c: u64) -> usize
+// The terms of the store.
+fn old_terms(store: &[u64], z: Sizes) -> Terms
+    requires { (z.n * (z.w + 1) ≤ length store.now) × (z.w ≤ 16) }
+    ensures { (result.words.now ≡ store.now) × (result.count ≡ z.n) × (result.width ≡ z.w) }
+{
+    Terms {
+        words: store,
+        count: z.n,
+        width: z.w,
+    }
+}
+
+// Writes the term of c and the set at word h as the o-th, unless c is 0. The number of terms then; None without room.
+// The merge has one of its own, which differs in the write alone: a closure for that is no shorter.
+fn emit(scratch: &mut [u64], h: usize, w: usize, o: usize, limit: usize, c: u64) -> Option<usize>
     requires { (limit * (w + 1) ≤ h) × (h + w ≤ length scratch.old) × (o ≤ limit) × (w ≤ 16) }
     ensures { Emitted w o limit c (words_at scratch.old h w) scratch.old scratch.new result }
 {
     if c == 0 {
-        return o;
+        return Some(o);
     }
     if o == limit {
-        return limit + 1;
+        return None;
     }
     words::terms::carry(scratch, h, w, o * (w + 1), c);
-    o + 1
+    Some(o + 1)
 }
 
 // Whether the store's next term has the set of the next new one.
@@ -66,48 +78,42 @@ fn meets(store: &[u64], z: Sizes, scratch: &[u64], p: Place) -> bool
         return false;
     }
     let h = (z.limit + p.used) * (z.w + 1) + 1;
-    equal(store, p.at * (z.w + 1) + 1, scratch, h, z.w, z.k)
+    equal(
+        store,
+        old_terms(store, z).set_at(p.at),
+        scratch,
+        h,
+        z.w,
+        z.k,
+    )
 }
 
 // The next new term, with the store's next one where that has its set; none of the others is above it.
-fn take_new(store: &[u64], z: Sizes, scratch: &mut [u64], p: Place) -> Place
+fn take_new(store: &[u64], z: Sizes, scratch: &mut [u64], p: Place) -> Option<Place>
     requires { Midway z store.now scratch.old p × Head z (old_terms z store.now) (new_terms z scratch.old) p }
     ensures { Turned z store.now scratch.old p result scratch.new }
 {
     let from = (z.limit + p.used) * (z.w + 1);
     let c = scratch[from];
+    let used = p.used + 1;
     if meets(store, z, scratch, p) {
-        let x = store[p.at * (z.w + 1)];
-        let out = emit(scratch, from + 1, z.w, p.out, z.limit, sum(c, x, z.l));
-        return Place {
-            at: p.at + 1,
-            stop: p.stop,
-            used: p.used + 1,
-            out,
-        };
+        let x = old_terms(store, z).coefficient(p.at);
+        let out = emit(scratch, from + 1, z.w, p.out, z.limit, sum(c, x, z.l))?;
+        let at = p.at + 1;
+        return Some(Place { at, used, out, ..p });
     }
-    let out = emit(scratch, from + 1, z.w, p.out, z.limit, c);
-    Place {
-        at: p.at,
-        stop: p.stop,
-        used: p.used + 1,
-        out,
-    }
+    let out = emit(scratch, from + 1, z.w, p.out, z.limit, c)?;
+    Some(Place { used, out, ..p })
 }
 
-// The store's terms up to `to`, in one go; limit + 1 without room.
-fn stretch(store: &[u64], z: Sizes, scratch: &mut [u64], p: Place, to: usize) -> Place
+// The store's terms up to `to`, in one go.
+fn stretch(store: &[u64], z: Sizes, scratch: &mut [u64], p: Place, to: usize) -> Option<Place>
     requires { Midway z store.now scratch.old p × Stretch z (old_terms z store.now) (new_terms z scratch.old) p to }
     ensures { Turned z store.now scratch.old p result scratch.new }
 {
     let out = p.out + (to - p.at);
     if out > z.limit {
-        return Place {
-            at: to,
-            stop: p.stop,
-            used: p.used,
-            out: z.limit + 1,
-        };
+        return None;
     }
     let stride = z.w + 1;
     words::stretches::copy(
@@ -117,29 +123,20 @@ fn stretch(store: &[u64], z: Sizes, scratch: &mut [u64], p: Place, to: usize) ->
         p.out * stride,
         (to - p.at) * stride,
     );
-    Place {
-        at: to,
-        stop: p.stop,
-        used: p.used,
-        out,
-    }
+    Some(Place { at: to, out, ..p })
 }
 
 // One turn: a term that holds v is passed over; the terms above the next new one are copied; or that one is taken.
-fn turn(store: &[u64], z: Sizes, scratch: &mut [u64], p: Place) -> Place
+fn turn(store: &[u64], z: Sizes, scratch: &mut [u64], p: Place) -> Option<Place>
     requires { Midway z store.now scratch.old p × (going_on z p ≡ true) }
     ensures { Turned z store.now scratch.old p result scratch.new }
 {
+    let old = old_terms(store, z);
     if p.at == p.stop {
         if p.at < z.n {
-            let from = p.at + 1;
-            let stop = holding(store, z.n, z.w, z.v, from, z.end);
-            return Place {
-                at: from,
-                stop,
-                used: p.used,
-                out: p.out,
-            };
+            let at = p.at + 1;
+            let stop = holding(&old, z.v, at, z.end);
+            return Some(Place { at, stop, ..p });
         }
         return take_new(store, z, scratch, p);
     }
@@ -147,46 +144,30 @@ fn turn(store: &[u64], z: Sizes, scratch: &mut [u64], p: Place) -> Place
         return stretch(store, z, scratch, p, p.stop);
     }
     let t = (z.limit + p.used) * (z.w + 1) + 1;
-    let to = above(store, z.n, z.w, z.k, p.at, p.stop, scratch, t);
+    let to = above(&old, z.k, p.at, p.stop, scratch, t);
     if p.at < to {
         return stretch(store, z, scratch, p, to);
     }
     take_new(store, z, scratch, p)
 }
 
-// Whether there is room, and a new term or one that holds v is left.
+// Whether a new term or one that holds v is left.
+#[tactic(auto, unfolding(crate::specs::Weaving::going_on))]
 fn goes_on(z: Sizes, p: Place) -> bool
     ensures { result ≡ going_on z p }
 {
-    (p.out <= z.limit) & ((p.at < z.end) | (p.used < z.made))
+    p.at < z.end || p.used < z.made
 }
 
-// What the weave gives from its last place on: where there is no room, what it wrote is cleared.
-fn ended(z: Sizes, scratch: &mut [u64], p: Place) -> Parts
-    requires { (z.w ≤ 16) × (z.limit * (z.w + 1) ≤ length scratch.old) }
-    ensures { Ended z p scratch.old result scratch.new }
-{
-    if p.out <= z.limit {
-        return Parts {
-            out: p.out,
-            at: p.at,
-        };
-    }
-    words::stretches::clear(scratch, 0, z.limit * (z.w + 1));
-    Parts {
-        out: z.limit + 1,
-        at: z.n,
-    }
-}
-
-// Both lists gathered into one, in two parts: in front of scratch, and the store's last terms, which stay as they are. At most `limit`
-// terms are written; `out` is limit + 1 if there are more.
-pub fn weave(store: &[u64], z: Sizes, scratch: &mut [u64]) -> Parts
+// Both lists gathered into one, in two parts: in front of scratch, and the store's last terms, which stay as they are. There is no room
+// where at most `limit` terms in scratch are too few: what was written is cleared.
+pub fn weave(store: &[u64], z: Sizes, scratch: &mut [u64]) -> Option<Parts>
     requires { Task z store.now scratch.old }
-    ensures { Joined z.limit (gather (2 ^ z.l) (without z.v (old_terms z store.now) ++ new_terms z scratch.old)) (old_terms z store.now) result (decoded z.w result.out scratch.new)
-        × Kept z.w z.limit result.out scratch.old scratch.new }
+    ensures { Joined z.w z.limit (gather (2 ^ z.l) (without z.v (old_terms z store.now) ++ new_terms z scratch.old)) (old_terms z store.now) result scratch.new
+        × Kept z.w z.limit (written result) scratch.old scratch.new }
 {
-    let stop = holding(store, z.n, z.w, z.v, 0, z.end);
+    let old = old_terms(store, z);
+    let stop = holding(&old, z.v, 0, z.end);
     let mut p = Place {
         at: 0,
         stop,
@@ -194,7 +175,14 @@ pub fn weave(store: &[u64], z: Sizes, scratch: &mut [u64]) -> Parts
         out: 0,
     };
     while goes_on(z, p) {
-        p = turn(store, z, scratch, p);
+        let Some(next) = turn(store, z, scratch, p) else {
+            words::stretches::clear(scratch, 0, z.limit * (z.w + 1));
+            return None;
+        };
+        p = next;
     }
-    ended(z, scratch, p)
+    Some(Parts {
+        out: p.out,
+        at: p.at,
+    })
 }

@@ -1,13 +1,12 @@
 -- The leap leaves a stretch, which is halved.
-use Prim.Native.Nat.{◌-◌, ◌<◌, ◌≤◌}
-use lib.ListN.{get_or}
+use Rattle.std.proofs.Common.{◌-◌}
+use Rattle.words.specs.Listed.{terms_of}
 use Rattle.words.specs.Numbers.{num, words_at}
-use Rattle.words.specs.Stored.{decoded}
-use Rattle.weave.specs.Seeking.{Above}
+use Rattle.weave.specs.Seeking.{Bracket}
 use Rattle.weave.proofs.seeking.above.Given as goal
 
-abbrev pub invariant-loop-low : goal.invariant-loop-low
-invariant-loop-low l = (l.from ≤ l.low) × (l.low ≤ l.high) × (l.high ≤ l.to) × Above (decoded l.w l.n l.store) (num (words_at l.others l.t l.w)) l.from l.low × (l.high < l.to → (get_or (decoded l.w l.n l.store) l.high (0, 0)).1 ≤ num (words_at l.others l.t l.w))
+abbrev pub invariant-loop-left : goal.invariant-loop-left
+invariant-loop-left l = Bracket (terms_of l.terms) (num (words_at l.others l.t l.terms.width)) l.from l.to l.left
 
-abbrev pub decreases-loop-low : goal.decreases-loop-low
-decreases-loop-low l = l.high - l.low
+abbrev pub decreases-loop-left : goal.decreases-loop-left
+decreases-loop-left l = l.left.end - l.left.start

@@ -1,57 +1,34 @@
-use mathlib.Core.Path.{sym, ◌∙◌, ap}
-use Prim.Native.Nat.{◌+◌}
-use native.Mathlib.Omega.{arith}
-use Rattle.rules.specs.Values.{bit}
-use Rattle.words.specs.Stored.{decoded}
-use Rattle.words.proofs.Stored.{length_decoded, stride_in}
-use Rattle.weave.proofs.Places.{free_join, free_one, decoded_set}
+use Rattle.std.proofs.Common.{◌+◌, sym, ◌∙◌, arith, eqb-true}
+use borrow.Author.Tests.{eqb-false}
+use Rattle.words.specs.Listed.{terms_of}
+use Rattle.words.proofs.Stored.{length_terms}
+use Rattle.weave.proofs.Places.{free_join, free_one}
 use Rattle.weave.proofs.seeking.holding.Goals as goal
 
-pub loop-i-init : goal.loop-i-init
-loop-i-init c =
-    (omega arith, omega arith, λ i f l. absurd (omega arith))
-
-pub overflow_mul-i : goal.overflow_mul-i
-overflow_mul-i c =
-    let a = c.args in
-    omega (arith, stride_in c.loop-i.i a.n a.w _ (omega arith) c.requires.0)
-
-pub overflow_add-i : goal.overflow_add-i
-overflow_add-i c =
-    let a = c.args in
-    omega (arith, stride_in c.loop-i.i a.n a.w _ (omega arith) c.requires.0)
-
-pub holds-requires : goal.holds-requires
-holds-requires c =
-    let a = c.args in
-    omega (arith, stride_in c.loop-i.i a.n a.w _ (omega arith) c.requires.0)
-
-pub returns-then-holds-eq1 : goal.returns-then-holds-eq1
-returns-then-holds-eq1 c =
-    let a = c.args in
-    let l = c.loop-i in
+pub returns-then-holds : goal.returns-then-holds
+returns-then-holds c =
+    let t = c.args.terms.now in
     record {
-      low = l.invariant.0;
-      high = omega (arith, length_decoded a.w a.n a.store.now);
-      free = l.invariant.2;
-      held = λ u. ap (λ s. bit s a.v) (decoded_set a.w a.n l.i a.store.now (omega arith)) ∙ sym c.holds.ensures ∙ c.if-holds-eq1.true;
+      low = omega arith;
+      high = omega (arith, length_terms t);
+      free = c.loop-i.invariant;
+      held = λ u. eqb-true _ _ (sym c.holds.ensures ∙ c.if-holds.true);
     }
 
 pub loop-i-preserved : goal.loop-i-preserved
 loop-i-preserved c =
-    let a = c.args in
+    let t = c.args.terms.now in
     let l = c.loop-i in
-    let e = ap (λ s. bit s a.v) (decoded_set a.w a.n l.i a.store.now (omega arith)) ∙ sym c.holds.ensures in
-    (omega arith, omega arith, free_join a.v (decoded a.w a.n a.store.now) a.from l.i (l.i + 1) l.invariant.2 (free_one a.v (decoded a.w a.n a.store.now) l.i (l.i + 1) (omega arith) (λ x. c.if-holds-eq1.false (sym e ∙ x))))
+    free_join c.args.v (terms_of t) c.args.from l.i (l.i + 1) l.invariant
+    (free_one c.args.v (terms_of t) l.i (l.i + 1) (omega arith) (eqb-false _ _ (sym c.holds.ensures ∙ c.if-holds.false)))
 
 pub returns : goal.returns
 returns c =
-    let a = c.args in
+    let t = c.args.terms.now in
     let l = c.loop-i in
-    let e = length_decoded a.w a.n a.store.now in
     record {
       low = omega arith;
-      high = omega (arith, e);
-      free = free_join a.v (decoded a.w a.n a.store.now) a.from l.i a.n l.invariant.2 (λ j f u. c.requires.5 j (omega arith) u);
-      held = λ u. absurd (omega (arith, e));
+      high = omega (arith, length_terms t);
+      free = free_join c.args.v (terms_of t) c.args.from l.i t.count l.invariant (λ j f u. c.requires.3 j (omega arith) u);
+      held = λ u. absurd (omega (arith, length_terms t));
     }

@@ -1,11 +1,6 @@
--- One term after the other.
-use Prim.Native.Nat.{◌-◌, ◌≤◌}
-use Rattle.words.specs.Stored.{decoded}
+use Rattle.words.specs.Listed.{terms_of}
 use Rattle.weave.specs.Seeking.{Free}
 use Rattle.weave.proofs.seeking.holding.Given as goal
 
 abbrev pub invariant-loop-i : goal.invariant-loop-i
-invariant-loop-i l = (l.from ≤ l.i) × (l.i ≤ l.n) × Free l.v (decoded l.w l.n l.store) l.from l.i
-
-abbrev pub decreases-loop-i : goal.decreases-loop-i
-decreases-loop-i l = l.end - l.i
+invariant-loop-i l = Free l.v (terms_of l.terms) l.from l.i

@@ -21,18 +21,6 @@ overflow_mul-p c =
     let p = c.requires in
     omega (arith, stretch_words a.z a.store.now a.scratch.now a.scratch.now a.p p.0 a.to p.1)
 
-pub overflow_mul-p-2 : goal.overflow_mul-p-2
-overflow_mul-p-2 c =
-    let a = c.args in
-    let p = c.requires in
-    omega (arith, stretch_room a.z a.store.now a.scratch.now a.scratch.now a.p p.0 a.to p.1 c.if-out-z.false)
-
-pub overflow_mul-to : goal.overflow_mul-to
-overflow_mul-to c =
-    let a = c.args in
-    let p = c.requires in
-    omega (arith, stretch_words a.z a.store.now a.scratch.now a.scratch.now a.p p.0 a.to p.1)
-
 pub copy-requires : goal.copy-requires
 copy-requires c =
     let a = c.args in

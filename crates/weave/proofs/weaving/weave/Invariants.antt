@@ -3,8 +3,8 @@ use Rattle.weave.specs.Weaving.{left}
 use Rattle.weave.proofs.Rounds.{Underway}
 use Rattle.weave.proofs.weaving.weave.Given as goal
 
-abbrev pub invariant-loop-scratch : goal.invariant-loop-scratch
-invariant-loop-scratch l = Underway l.z l.store l.initial.scratch l.scratch l.p
+abbrev pub invariant-loop-z : goal.invariant-loop-z
+invariant-loop-z l = Underway l.z l.store l.initial.scratch l.scratch l.p
 
-abbrev pub decreases-loop-scratch : goal.decreases-loop-scratch
-decreases-loop-scratch l = left l.z l.p
+abbrev pub decreases-loop-z : goal.decreases-loop-z
+decreases-loop-z l = left l.z l.p

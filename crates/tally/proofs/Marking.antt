@@ -1,19 +1,22 @@
 -- How numbers are marked: the lowest bit of a word, one word more of a set, and one set behind the other.
-use Rattle.std.proofs.Common.{◌≡◌, ℕ, zero, suc, ◌+◌, ◌-◌, ◌*◌, ◌/◌, ◌%◌, ◌^◌, ◌<◌, ◌≤◌, min, Bool, true, false, eqb, ltb, List, [], ◌∷◌, ◌++◌, length, get_or, take, drop, set, sym, refl, ap, ◌∙◌, add-zero, add_assoc, mod-lt, mod-eq_of_lt, mul_assoc, add-mul, mul-le-mul_left, mul-zero, zero-add, mul-one, mul-add, arith, length-drop, length-set, take-append-drop, get_or-drop, take_all, get_or-set_other, get_or-set_same, drop-drop, pow_pos, pow_mono, pow-add, ltb-false, ltb-true, eqb-true}
+use Rattle.std.proofs.Common.{◌≡◌, ℕ, zero, suc, ◌+◌, ◌-◌, ◌*◌, ◌/◌, ◌%◌, ◌^◌, ◌<◌, ◌≤◌, min, Bool, true, false, eqb, ltb, List, [], ◌∷◌, ◌++◌, length, get_or, take, drop, set, sym, refl, ap, ◌∙◌, add-zero, add_assoc, mod-lt, mod-eq_of_lt, mul_assoc, mul-le-mul_left, mul-zero, zero-add, mul-one, mul-add, arith, length-drop, length-set, take-append-drop, get_or-drop, get_or-set_other, get_or-set_same, pow_pos, pow_mono, pow-add, ltb-false, ltb-true, eqb-true}
+use Rattle.std.proofs.lemmas.List.{take_more}
 use native.Mathlib.Nat.{mod-mod, mod-add-mod, mul-sub, two-pow-succ}
 use lib.Bits.{bit_and, and_step, and_self}
 use lib.Count.{under, count_trailing_zeros}
 use borrow.Author.Tests.{eqb-false}
 use Rattle.rules.specs.Occurrences.{counts_at, occurring}
-use Rattle.rules.specs.Polynomial.{Polynomial}
+use Rattle.rules.specs.Polynomial.{Polynomial, Below}
 use Rattle.rules.specs.Values.{bit}
 use Rattle.rules.proofs.Bits.{bit_first, bit_next, bit_none, bit_out, bit_put, bit_both, bit_high}
 use Rattle.rules.proofs.Occurring.{occurring_append}
 use Rattle.words.specs.Numbers.{num, words_at}
+use Rattle.words.specs.Listed.{terms_of, set_of}
 use Rattle.words.specs.Stored.{decoded}
+use Rattle.words.specs.declared.listed.Terms.{Terms}
 use Rattle.words.proofs.Numbers.{num_short}
-use Rattle.words.proofs.Stored.{length_decoded, decoded_at, decoded_split, decoded_take, decoded_drop, stride_in, stride_le}
-use Rattle.weave.proofs.Falling.{below_front, below_drop}
+use Rattle.words.proofs.Stored.{length_terms, decoded_set, decoded_take, stride_in}
+use Rattle.weave.proofs.Falling.{below_front}
 use Rattle.weave.proofs.Places.{set_below}
 use Rattle.tally.specs.Marks.{Numbered, Counting, Marked}
 
@@ -29,6 +32,10 @@ lowest (suc k) n h l = go (n % 2) refl (λ e. lowest k (n / 2) (omega arith) (om
         let half = later e in
         (bit_next n (count_trailing_zeros k (n / 2)) ∙ half.0, omega (arith, half.1))
     go (suc d) e later = (bit_first n ∙ omega arith, omega arith)
+
+-- it is one of 64
+pub lowest_below : (n : ℕ) → n < 2 ^ 64 → (n ≡ 0 → ⊥) → count_trailing_zeros 64 n < 64
+lowest_below n l h = (lowest 64 n (omega (arith, h)) l).1
 
 -- a number less 1 has all bits but its lowest that is 1, and bits below that one
 pub lowest_out : (k n : ℕ) → 0 < n → n < 2 ^ k → bit_and n (n - 1) ≡ n - 2 ^ count_trailing_zeros k n
@@ -89,12 +96,37 @@ set_fits numbers v x inside fits u = go (eqb u v) refl
     go true q = rw (eqb-true u v q, get_or-set_same numbers v (x % 2 ^ 32) 0 inside) (mod-lt x (pow_pos 32))
     go false q = rw (get_or-set_other numbers v u (x % 2 ^ 32) 0 (eqb-false u v q)) (fits u)
 
--- when no bit is left, all are marked
-pub word_marked : (base by x : ℕ) (n₀ n : List ℕ) → length n ≡ length n₀ → ((u : ℕ) → get_or n u 0 < 2 ^ 32)
-    → ((u : ℕ) → (get_or n u 0 + by * bit (2 ^ base * 0) u) % 2 ^ 32 ≡ (get_or n₀ u 0 + by * bit (2 ^ base * x) u) % 2 ^ 32)
-    → Marked by (bit (2 ^ base * x)) n₀ n
-word_marked base by x n₀ n long fits each =
-    record { long = long; each = λ u l. sym (mod-eq_of_lt (fits u)) ∙ rw (mul-zero, bit_none u, mul-zero, add-zero) at (each u) }
+-- with the bits left of the word x, all are marked
+pub record Left (base by x left : ℕ) (n₀ n : List ℕ) : Type 0 where
+  pub fits : left < 2 ^ 64
+  pub long : length n ≡ length n₀
+  pub low : 2 ^ base * left < 2 ^ length n₀
+  pub small : (u : ℕ) → get_or n u 0 < 2 ^ 32
+  pub each : (u : ℕ) → (get_or n u 0 + by * bit (2 ^ base * left) u) % 2 ^ 32 ≡ (get_or n₀ u 0 + by * bit (2 ^ base * x) u) % 2 ^ 32
+
+module _ {base by x left : ℕ} {n₀ n : List ℕ} (h : Left base by x left n₀ n) where
+  -- the lowest bit has a number
+  pub left_inside : (left ≡ 0 → ⊥) → base + count_trailing_zeros 64 left < length n
+  left_inside some = omega (arith, word_inside base left (count_trailing_zeros 64 left) (length n₀) (lowest 64 left (omega (arith, some)) h.fits).0 h.low, h.long)
+
+  -- it is marked, and left no more
+  pub left_turn : (left ≡ 0 → ⊥) → Left base by x (bit_and left (left - 1)) n₀ (set n (base + count_trailing_zeros 64 left) ((get_or n (base + count_trailing_zeros 64 left) 0 + by) % 2 ^ 32))
+  left_turn some =
+      let b = count_trailing_zeros 64 left in
+      let held = (lowest 64 left (omega (arith, some)) h.fits).0 in
+      let fewer : left - 2 ^ b ≤ left = omega arith in
+      rw (lowest_out 64 left (omega (arith, some)) h.fits) (record {
+        fits = omega (arith, h.fits);
+        long = length-set n (base + b) _ ∙ h.long;
+        low = omega (arith, h.low, mul-le-mul_left (2 ^ base) fewer);
+        small = set_fits n (base + b) (get_or n (base + b) 0 + by) (left_inside some) h.small;
+        each = λ u. word_step base by left b n _ held (left_inside some) refl u ∙ h.each u;
+      })
+
+  -- when none is left, all are marked
+  pub left_none : left ≡ 0 → Marked by (bit (2 ^ base * x)) n₀ n
+  left_none none =
+      record { long = h.long; each = λ u l. sym (mod-eq_of_lt (h.small u)) ∙ rw (none, mul-zero, bit_none u, mul-zero, add-zero) at (h.each u) }
 
 -- one count behind the other
 pub marked_add : (by : ℕ) (f g h : ℕ → ℕ) (n₀ n₁ n₂ : List ℕ) → ((u : ℕ) → h u ≡ f u + g u) → Marked by f n₀ n₁ → Marked by g n₁ n₂ → Marked by h n₀ n₂
@@ -174,93 +206,64 @@ numbered_at lent i [] all l = absurd (omega arith)
 numbered_at lent zero (t ∷ p) all l = all.0
 numbered_at lent (suc i) (t ∷ p) all l = numbered_at lent i p all.1 (omega arith)
 
--- one term more
-pub occurring_next : (w i : ℕ) (store : List ℕ) (u : ℕ)
-    → occurring (decoded w (i + 1) store) u ≡ occurring (decoded w i store) u + counts_at (num (words_at store (i * (w + 1) + 1) w)) u
-unfolding occurring decoded
-occurring_next w i store u =
-    let place : i * suc w ≡ i * (w + 1) = ap (λ (k : ℕ). i * k) (omega arith) in
-    rw (decoded_split w i 1 store, occurring_append u (decoded w i store) (decoded w 1 (drop (i * suc w) store)), place, drop-drop 1 (i * (w + 1)) store, add-zero)
+-- the terms in front of the i-th, and it
+occurring_next : (i : ℕ) (p : Polynomial) → i < length p → (u : ℕ) → occurring (take (i + 1) p) u ≡ occurring (take i p) u + counts_at (get_or p i (0, 0)).1 u
+unfolding occurring
+occurring_next i p l u = rw (take_more p i (0, 0) l, occurring_append u (take i p) (get_or p i (0, 0) ∷ []), add-zero)
 
 -- the i-th of the terms that are counted: its k words are there, and its variables have numbers
-pub record Counted (store : List ℕ) (w k lent i : ℕ) : Type 0 where
-  pub there : i * (w + 1) + (k + 1) ≤ length store
+pub record Counted (terms : Terms) (k lent i : ℕ) : Type 0 where
+  pub there : i * (terms.width + 1) + 1 + k ≤ length terms.words.now
   pub narrow : k ≤ 16
-  pub same : num (words_at store (i * (w + 1) + 1) w) ≡ num (words_at store (i * (w + 1) + 1) k)
-  pub low : num (words_at store (i * (w + 1) + 1) k) < 2 ^ lent
-  pub even : bit (num (words_at store (i * (w + 1) + 1) k)) 0 ≡ 0
+  pub same : set_of terms i ≡ num (words_at terms.words.now (i * (terms.width + 1) + 1) k)
+  pub low : num (words_at terms.words.now (i * (terms.width + 1) + 1) k) < 2 ^ lent
+  pub even : bit (num (words_at terms.words.now (i * (terms.width + 1) + 1) k)) 0 ≡ 0
 
-module _ {store : List ℕ} {n w k lent : ℕ} (c : Counting store n w k lent) (i : ℕ) (l : i < n) where
-  pub counted_set : Counted store w k lent i
+module _ {terms : Terms} {k lent : ℕ} (c : Counting terms k lent) (i : ℕ) (l : i < terms.count) where
+  pub counted_set : Counted terms k lent i
   counted_set =
-      let here = length_decoded w n store in
-      let p = decoded w n store in
-      let at = decoded_at w n i store l in
-      let inside = stride_in i n w (length store) l c.room in
-      let numbers = rw at at (numbered_at lent i p c.numbered (omega (arith, here))) in
-      let short : num (words_at store (i * (w + 1) + 1) w) ≡ num (words_at store (i * (w + 1) + 1) k) =
-      num_short store (i * (w + 1) + 1) w k (omega arith) c.short (rw at at (set_below (2 ^ (64 * k)) p i c.falls (omega (arith, here)))) in
+      let here : i < length (terms_of terms) = rw length_terms l in
+      let inside = stride_in i terms.count terms.width (length terms.words.now) l terms.within in
+      let set = decoded_set terms.width terms.count i terms.words.now l in
+      let numbers = numbered_at lent i (terms_of terms) c.numbered here in
+      let short = set ∙ num_short terms.words.now (i * (terms.width + 1) + 1) terms.width k (omega arith) c.short (rw set at (set_below (2 ^ (64 * k)) (terms_of terms) i c.falls here)) in
       record {
         there = omega (arith, c.short);
-        narrow = omega (arith, c.short, c.narrow);
+        narrow = omega (arith, c.short, terms.narrow);
         same = short;
         low = rw short at numbers.0;
         even = rw short at numbers.1;
       }
 
   -- one term more
-  pub counted_next : (u : ℕ) → occurring (decoded w (i + 1) store) u ≡ occurring (decoded w i store) u + counts_at (num (words_at store (i * (w + 1) + 1) k)) u
-  counted_next u = rw (← counted_set.same) (occurring_next w i store u)
+  pub counted_next : (u : ℕ) → occurring (take (i + 1) (terms_of terms)) u ≡ occurring (take i (terms_of terms)) u + counts_at (num (words_at terms.words.now (i * (terms.width + 1) + 1) k)) u
+  counted_next u = rw (← counted_set.same) (occurring_next i (terms_of terms) (rw length_terms l) u)
 
--- the terms from one on, and those in front of it
-numbered_drop : (lent i : ℕ) (p : Polynomial) → Numbered lent p → Numbered lent (drop i p)
-numbered_drop lent zero p h = h
-numbered_drop lent (suc i) [] h = tt
-numbered_drop lent (suc i) (t ∷ p) h = numbered_drop lent i p h.1
+  -- and so behind others
+  pub counted_behind : (from : ℕ) → from ≤ i → (u : ℕ) → occurring (take (i + 1 - from) (drop from (terms_of terms))) u
+      ≡ occurring (take (i - from) (drop from (terms_of terms))) u + counts_at (num (words_at terms.words.now (i * (terms.width + 1) + 1) k)) u
+  counted_behind from a u =
+      let p = terms_of terms in
+      let e : i + 1 - from ≡ i - from + 1 = omega arith in
+      let h : from + (i - from) ≡ i = omega arith in
+      let set : (get_or (drop from p) (i - from) (0, 0)).1 ≡ set_of terms i = rw (get_or-drop from p (i - from) (0, 0), h) in
+      rw (e, ← counted_set.same, ← set) (occurring_next (i - from) (drop from p) (rw (length-drop, length_terms) (omega arith)) u)
 
+-- the first of numbered terms
 pub numbered_front : (lent : ℕ) (p q : Polynomial) → Numbered lent (p ++ q) → Numbered lent p
 numbered_front lent [] q h = tt
 numbered_front lent (t ∷ p) q h = (h.0, numbered_front lent p q h.1)
 
--- all that is behind the first words
-pub rest_all : (words : List ℕ) (i : ℕ) → take (length words - i) (drop i words) ≡ drop i words
-rest_all words i = take_all (length words - i) (drop i words) (simp length-drop (omega arith))
+-- fewer terms in the same words: they fall, and are numbered
+pub front_counted : (w k lent from n : ℕ) (store : List ℕ) → from ≤ n → Below (2 ^ (64 * k)) (decoded w n store) → Numbered lent (decoded w n store)
+    → Below (2 ^ (64 * k)) (decoded w from store) × Numbered lent (decoded w from store)
+front_counted w k lent from n store l f h =
+    let p = decoded w n store in
+    rw (decoded_take w from n store l) (
+      below_front (2 ^ (64 * k)) (take from p) (drop from p) (rw (take-append-drop from p) f),
+      numbered_front lent (take from p) (drop from p) (rw (take-append-drop from p) h),
+    )
 
-module _ {store : List ℕ} {n w k lent : ℕ} (c : Counting store n w k lent) (from : ℕ) (l : from ≤ n) where
-  -- they begin within the words that are there
-  pub rest_room : from * (w + 1) ≤ length store
-  rest_room = stride_le from n w (length store) l c.room
-
-  -- those in front of them are counted there
-  pub counting_front : Counting store from w k lent
-  counting_front =
-      let front = decoded_take w from n store l in
-      record {
-        room = rest_room;
-        narrow = c.narrow;
-        short = c.short;
-        some = c.some;
-        falls = rw front (below_front (2 ^ (64 * k)) (take from (decoded w n store)) (drop from (decoded w n store)) (rw (take-append-drop from (decoded w n store)) c.falls));
-        numbered = rw front (numbered_front lent (take from (decoded w n store)) (drop from (decoded w n store)) (rw (take-append-drop from (decoded w n store)) c.numbered));
-      }
-
-  -- and so are they
-  pub counting_rest : Counting (drop (from * (w + 1)) store) (n - from) w k lent
-  counting_rest =
-      let all : (n - from) * (w + 1) + from * (w + 1) ≡ n * (w + 1) = rw (← add-mul (n - from) from (w + 1)) (ap (λ (x : ℕ). x * (w + 1)) (omega arith)) in
-      let rest = decoded_drop w from n store l in
-      record {
-        room = rw length-drop (omega (arith, c.room));
-        narrow = c.narrow;
-        short = c.short;
-        some = c.some;
-        falls = rw rest at (below_drop (2 ^ (64 * k)) from (decoded w n store) c.falls);
-        numbered = rw rest at (numbered_drop lent from (decoded w n store) c.numbered);
-      }
-
-  -- the terms in front of them, and they
-  pub occurring_rest : (u : ℕ) → occurring (decoded w n store) u ≡ occurring (decoded w from store) u + occurring (drop from (decoded w n store)) u
-  occurring_rest u =
-      let both : decoded w n store ≡ decoded w from store ++ drop from (decoded w n store) =
-      sym (ap (λ (p : Polynomial). p ++ drop from (decoded w n store)) (decoded_take w from n store l) ∙ take-append-drop from (decoded w n store)) in
-      ap (λ (p : Polynomial). occurring p u) both ∙ occurring_append u (decoded w from store) (drop from (decoded w n store))
+-- the terms in front of one, and those from it on
+pub occurring_rest : (from : ℕ) (p : Polynomial) (u : ℕ) → occurring p u ≡ occurring (take from p) u + occurring (drop from p) u
+occurring_rest from p u = ap (λ (q : Polynomial). occurring q u) (sym (take-append-drop from p)) ∙ occurring_append u (take from p) (drop from p)

@@ -1,27 +1,27 @@
 -- Numbers of occurrences with something added or taken away.
-use Rattle.std.specs.Prelude.{◌≡◌, ℕ, ◌+◌, ◌*◌, ◌%◌, ◌^◌, ◌<◌, ◌≤◌, List, [], ◌∷◌, length, slice_index}
+use Rattle.std.specs.Prelude.{◌≡◌, Bool, true, false, ℕ, ◌+◌, ◌*◌, ◌%◌, ◌^◌, ◌<◌, ◌≤◌, List, [], ◌∷◌, length, slice_index}
 use Rattle.rules.specs.Occurrences.{counts_at, occurring}
 use Rattle.rules.specs.Polynomial.{Polynomial, Below}
 use Rattle.rules.specs.Values.{bit}
-use Rattle.words.specs.Stored.{decoded}
+use Rattle.words.specs.Listed.{terms_of}
+use Rattle.words.specs.declared.listed.Terms.{Terms}
 
 -- terms whose variables have numbers: every set is below 2^lent, and none has variable 0
 abbrev pub Numbered : ℕ → Polynomial → Type 0
 Numbered lent [] = Unit
 Numbered lent (t ∷ p) = ((t.1 < 2 ^ lent) × (bit t.1 0 ≡ 0)) × Numbered lent p
 
--- what is asked to count n terms: their sets fall and use k of their w words, and their variables have numbers
-pub record Counting (store : List ℕ) (n w k lent : ℕ) : Type 0 where
-  pub room : n * (w + 1) ≤ length store
-  pub narrow : w ≤ 16
-  pub short : k ≤ w
+-- what is asked to count terms: their sets fall and use k of their words, and their variables have numbers
+pub record Counting (terms : Terms) (k lent : ℕ) : Type 0 where
+  pub short : k ≤ terms.width
   pub some : 0 < lent
-  pub falls : Below (2 ^ (64 * k)) (decoded w n store)
-  pub numbered : Numbered lent (decoded w n store)
+  pub falls : Below (2 ^ (64 * k)) (terms_of terms)
+  pub numbered : Numbered lent (terms_of terms)
 
--- how often a set counts that is there so many times
-unfoldable pub times_counts : ℕ → ℕ → ℕ → ℕ
-times_counts n s u = n * counts_at s u
+-- how often a set counts that is there, or not
+unfoldable pub counts_if : Bool → ℕ → ℕ → ℕ
+counts_if true s u = counts_at s u
+counts_if false s u = 0
 
 -- each number with `by` added as often as it is counted, modulo 2^32
 pub record Marked (by : ℕ) (count : ℕ → ℕ) (entry exit : List ℕ) : Type 0 where

@@ -1,25 +1,31 @@
--- `mark_rest` counts the terms from one on. Assumes nothing.
-use Rattle.std.proofs.Common.{◌+◌, ◌*◌, arith}
-use Rattle.words.proofs.Stored.{decoded_drop}
-use Rattle.tally.proofs.Marking.{rest_all, rest_room, counting_rest}
+use Rattle.std.proofs.Common.{◌≡◌, ◌-◌, refl, drop, length-drop, take_all, arith}
+use Rattle.rules.specs.Occurrences.{occurring}
+use Rattle.words.specs.Listed.{terms_of}
+use Rattle.words.proofs.Stored.{length_terms}
+use Rattle.tally.proofs.Marking.{marked_add, marked_none, counted_set, counted_behind}
 use Rattle.tally.proofs.mark_rest.Goals as goal
 
-pub overflow_mul-from : goal.overflow_mul-from
-overflow_mul-from c = omega (arith, rest_room c.requires.0 c.args.from c.requires.1, c.well_formed)
+pub loop-i-init : goal.loop-i-init
+unfolding occurring
+loop-i-init c =
+    let a = c.args in
+    let e : a.from - a.from ≡ 0 = omega arith in
+    rw e (marked_none a.by _ a.numbers.now (λ u. refl) (λ u. (c.type_inv.numbers u).fits))
 
-pub offset_bounds-store-from : goal.offset_bounds-store-from
-offset_bounds-store-from c = omega (arith, rest_room c.requires.0 c.args.from c.requires.1, c.well_formed)
+pub mark-requires : goal.mark-requires
+mark-requires c =
+    let l = c.loop-i in
+    let set = counted_set c.requires.0 l.i (omega arith) in
+    rw c.set_at.ensures (set.there, set.narrow, rw l.invariant.long c.requires.0.some, rw l.invariant.long set.low, set.even)
 
-pub slice_bounds-mark_all-count : goal.slice_bounds-mark_all-count
-slice_bounds-mark_all-count c = rest_room c.requires.0 c.args.from c.requires.1
-
-pub mark_all-requires : goal.mark_all-requires
-mark_all-requires c =
-    rw (rest_all c.args.store.now _) (counting_rest c.requires.0 c.args.from c.requires.1)
+pub loop-i-preserved : goal.loop-i-preserved
+loop-i-preserved c =
+    let l = c.loop-i in
+    marked_add c.args.by _ _ _ c.args.numbers.now l.numbers _ (counted_behind c.requires.0 l.i (omega arith) c.args.from (omega arith)) l.invariant (rw c.set_at.ensures at c.mark.ensures)
 
 pub returns : goal.returns
 returns c =
     let a = c.args in
-    let p = c.requires in
-    let all = rest_all a.store.now (a.from * (a.w + 1)) in
-    rw (all, ← decoded_drop a.w a.from a.n a.store.now p.1) at c.mark_all.ensures
+    let e : c.loop-i.i ≡ a.terms.now.count = omega arith in
+    let all = take_all (a.terms.now.count - a.from) (drop a.from (terms_of a.terms.now)) (rw (length-drop, length_terms) (omega arith)) in
+    rw (e, all) at c.loop-i.invariant

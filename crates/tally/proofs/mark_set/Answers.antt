@@ -1,4 +1,4 @@
-use Rattle.std.proofs.Common.{◌≡◌, arith}
+use Rattle.std.proofs.Common.{arith}
 use Rattle.rules.specs.Values.{bit}
 use Rattle.rules.proofs.Bits.{bit_none}
 use Rattle.words.specs.Numbers.{num}
@@ -9,26 +9,17 @@ pub loop-j-init : goal.loop-j-init
 unfolding num
 loop-j-init c =
     let a = c.args in
-    (omega arith, marked_none a.by (bit 0) a.numbers.now bit_none (λ u. (c.type_inv.numbers u).fits))
+    marked_none a.by (bit 0) a.numbers.now bit_none (λ u. (c.type_inv.numbers u).fits)
 
 pub mark_word-requires : goal.mark_word-requires
 mark_word-requires c =
     let l = c.loop-j in
     let a = c.args in
     let p = c.requires in
-    (omega (arith, p.1), rw l.invariant.1.long (word_within a.words.now a.at (λ u. (c.type_inv.words u).fits) l.j a.k _ (omega arith) p.2))
+    (omega (arith, p.1), rw l.invariant.long (word_within a.words.now a.at (λ u. (c.type_inv.words u).fits) l.j a.k _ (omega arith) p.2))
 
 pub loop-j-preserved : goal.loop-j-preserved
 loop-j-preserved c =
     let l = c.loop-j in
     let a = c.args in
-    (omega arith, marked_add a.by _ _ _ a.numbers.now l.numbers _ (bit_more a.words.now a.at (λ u. (c.type_inv.words u).fits) l.j) l.invariant.1 c.mark_word.ensures)
-
-pub shape_of-numbers : goal.shape_of-numbers
-shape_of-numbers c = c.loop-j.invariant.1.long
-
-pub returns : goal.returns
-returns c =
-    let l = c.loop-j in
-    let e : l.j ≡ c.args.k = omega arith in
-    rw e at l.invariant.1
+    marked_add a.by _ _ _ a.numbers.now l.numbers _ (bit_more a.words.now a.at (λ u. (c.type_inv.words u).fits) l.j) l.invariant c.mark_word.ensures

@@ -3,13 +3,15 @@ use mathlib.Core.Path.{◌≡◌, refl, ap, sym, ◌∙◌}
 use mathlib.Core.Bool.{Bool, true, false}
 use mathlib.Core.List.{[], ◌∷◌, ◌++◌, append_assoc}
 use mathlib.Core.Logic.{⊎_elim}
-use Prim.Native.Nat.{ℕ, zero, suc, ◌+◌, ◌*◌, ◌%◌, ◌<◌, ◌≤◌}
-use native.Mathlib.Nat.{zero-add, zero-mul, one-mul, eq-zero-or-pos, eq-or-lt_of_le, mod-lt}
+use Prim.Native.Nat.{ℕ, zero, suc, ◌+◌, ◌%◌, ◌<◌, ◌≤◌}
+use native.Mathlib.Nat.{zero-add, eq-zero-or-pos, eq-or-lt_of_le, mod-lt}
 use native.Mathlib.Omega.{arith}
 use lib.Dec.{ltb, eqb}
 use lib.ListN.{length, get_or, take, drop, take-append-drop, drop_of_length-le}
 use lib.Seq.{drop-cons, get_or-take, length-take-le}
 use borrow.Author.Tests.{ltb-true, ltb-false, eqb-true, eqb-false}
+use Rattle.std.specs.Int.{from_bool}
+use Rattle.tally.specs.Marks.{counts_if}
 use Rattle.rules.specs.Each.{sum, joined}
 use Rattle.rules.specs.Occurrences.{counts_at, occurring}
 use Rattle.rules.specs.Polynomial.{Term, Polynomial, hit, coefficient_at, Below, Coefficients, Under, keep, gather}
@@ -91,21 +93,20 @@ occurring_parts u i p = ap (λ (x : Polynomial). occurring x u) (sym (take-appen
 
 -- by where the term goes: both parts, the term between them, and its coefficient
 pub record Parted (m : ℕ) (p q : Polynomial) (s : ℕ) (r : Spot) (whole : Polynomial) : Type 0 where
-  pub within : r.above + r.met ≤ length p
-  pub once : r.met ≤ 1
+  pub within : r.above + from_bool r.met ≤ length p
   pub small : r.c < m
-  pub others : (u : ℕ) → occurring p u ≡ occurring (take r.above p) u + (r.met * counts_at s u + occurring (drop (r.above + r.met) p) u)
-  pub parts : whole ≡ take r.above p ++ keep r.c s (gather m (drop (r.above + r.met) p ++ q))
+  pub others : (u : ℕ) → occurring p u ≡ occurring (take r.above p) u + (counts_if r.met s u + occurring (drop (r.above + from_bool r.met) p) u)
+  pub parts : whole ≡ take r.above p ++ keep r.c s (gather m (drop (r.above + from_bool r.met) p ++ q))
 
 pub spot_parts : (m hi : ℕ) (p q : Polynomial) (y : Term) (r : Spot) → 0 < m → Below hi p → Coefficients m p → Below hi (y ∷ q) → y.0 < m → Spotted m p y.0 y.1 r → Parted m p q y.1 r (gather m (p ++ y ∷ q))
-unfolding occurring
+unfolding occurring counts_if
 spot_parts m hi p q y r hm fp cp fq cy h = go (ltb r.above (length p)) refl (eqb (get_or p r.above (0, 0)).1 y.1) refl
   where
     alone : (r.above < length p → (get_or p r.above (0, 0)).1 ≡ y.1 → ⊥) → Parted m p q y.1 r (gather m (p ++ y ∷ q))
     alone n =
         let e = h.alone n in
-        let z : r.above + r.met ≡ r.above = omega (arith, e.0) in
-        record { within = omega (arith, h.cut.high); once = omega (arith, e.0); small = rw e.1 cy; others = λ u. rw (z, e.0, zero-mul, zero-add) (occurring_parts u r.above p); parts = rw (e.1, z) (part_alone m hi p q y hm fp cp fq cy r.above h.cut n) }
+        let z : r.above + from_bool r.met ≡ r.above = rw e.0 (omega arith) in
+        record { within = omega (arith, h.cut.high); small = rw e.1 cy; others = λ u. rw (z, e.0, zero-add) (occurring_parts u r.above p); parts = rw (e.1, z) (part_alone m hi p q y hm fp cp fq cy r.above h.cut n) }
 
     go : (a : Bool) → ltb r.above (length p) ≡ a → (b : Bool) → eqb (get_or p r.above (0, 0)).1 y.1 ≡ b → Parted m p q y.1 r (gather m (p ++ y ∷ q))
     go false a b d = alone (λ l. absurd (omega (arith, ltb-false r.above (length p) a)))
@@ -114,7 +115,7 @@ spot_parts m hi p q y r hm fp cp fq cy h = go (ltb r.above (length p)) refl (eqb
         let l : r.above < length p = ltb-true _ _ a in
         let f : (get_or p r.above (0, 0)).1 ≡ y.1 = eqb-true _ _ d in
         let e = h.both l f in
-        let z : r.above + r.met ≡ suc r.above = omega (arith, e.0) in
+        let z : r.above + from_bool r.met ≡ suc r.above = rw e.0 (omega arith) in
         let cons : drop r.above p ≡ get_or p r.above (0, 0) ∷ drop (suc r.above) p = drop-cons p r.above (0, 0) l in
         let here : (u : ℕ) → occurring (drop r.above p) u ≡ counts_at y.1 u + occurring (drop (suc r.above) p) u = λ u. rw (cons, ← f) refl in
-        record { within = omega arith; once = omega (arith, e.0); small = rw e.1 (mod-lt _ hm); others = λ u. rw (z, e.0, one-mul, ← here u) (occurring_parts u r.above p); parts = rw (e.1, z) (part_both m hi p q y hm fp cp fq cy r.above h.cut l f) }
+        record { within = omega arith; small = rw e.1 (mod-lt _ hm); others = λ u. rw (z, e.0, ← here u) (occurring_parts u r.above p); parts = rw (e.1, z) (part_both m hi p q y hm fp cp fq cy r.above h.cut l f) }

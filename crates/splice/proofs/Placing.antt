@@ -1,26 +1,18 @@
 -- What is found of the place of a new term.
-use mathlib.Core.Path.{◌≡◌, refl}
-use mathlib.Core.Bool.{true, false}
-use mathlib.Core.List.{List}
-use Prim.Native.Nat.{ℕ, ◌+◌, ◌*◌, ◌%◌, ◌^◌, ◌<◌, ◌≤◌}
-use native.Mathlib.Omega.{arith}
-use lib.Dec.{eqb}
-use lib.ListN.{length, get_or}
-use borrow.Author.Tests.{eqb-true, eqb-false}
+use Rattle.std.proofs.Common.{◌≡◌, ℕ, ◌+◌, ◌*◌, ◌%◌, ◌^◌, ◌<◌, ◌≤◌, true, false, eqb, List, length, get_or, refl, sym, ◌∙◌, arith, eqb-true}
+use borrow.Author.Tests.{eqb-false}
+use Rattle.words.specs.Listed.{terms_of, set_of, coefficient_of}
+use Rattle.words.specs.declared.listed.Terms.{Terms}
 use Rattle.words.specs.Numbers.{num, words_at}
-use Rattle.words.specs.Stored.{decoded}
-use Rattle.words.proofs.Stored.{decoded_at, length_decoded, stride_in}
+use Rattle.words.proofs.Stored.{length_terms, decoded_set, stride_in}
 use Rattle.weave.specs.Seeking.{Sought, Cut}
-use Rattle.weave.specs.declared.weaving.Sizes.{Sizes}
 use Rattle.weave.proofs.Places.{set_below}
 use Rattle.splice.specs.Splicing.{Spotting, Spotted}
 
-module _ (terms : List ℕ) (n : ℕ) (z : Sizes) (scratch : List ℕ) (from : ℕ) (h : Spotting terms n z scratch from) where
+module _ (terms : Terms) (k l : ℕ) (scratch : List ℕ) (from : ℕ) (h : Spotting terms k l scratch from) where
   -- what the search asks
-  pub sought : Sought terms n z.w z.k 0 n scratch (from + 1)
+  pub sought : Sought terms k 0 terms.count scratch (from + 1)
   sought = record {
-    room = h.room;
-    narrow = h.narrow;
     some = h.some;
     short = h.short;
     ordered = omega arith;
@@ -30,39 +22,38 @@ module _ (terms : List ℕ) (n : ℕ) (z : Sizes) (scratch : List ℕ) (from : �
     low = h.low;
   }
 
-  module _ (at : ℕ) (l : at < n) where
-    -- the words of a term lie inside
-    pub inside : at * (z.w + 1) + (z.w + 1) ≤ length terms
-    inside = stride_in at n z.w (length terms) l h.room
+  -- the words of a term's set
+  set_words : (at : ℕ) → at < terms.count → set_of terms at ≡ num (words_at terms.words.now (at * (terms.width + 1) + 1) terms.width)
+  set_words at l = decoded_set terms.width terms.count at terms.words.now l
 
-    -- the term there
-    term : get_or (decoded z.w n terms) at (0, 0) ≡ (get_or terms (at * (z.w + 1)) 0, num (words_at terms (at * (z.w + 1) + 1) z.w))
-    term = decoded_at z.w n at terms l
+  -- what is asked to see whether it is the new one's
+  pub asks_equal : (at : ℕ) → at < terms.count
+      → (at * (terms.width + 1) + 1 + terms.width ≤ length terms.words.now) × (from + 1 + terms.width ≤ length scratch) × (k ≤ terms.width)
+      × (num (words_at terms.words.now (at * (terms.width + 1) + 1) terms.width) < 2 ^ (64 * k)) × (num (words_at scratch (from + 1) terms.width) < 2 ^ (64 * k))
+  asks_equal at l =
+      let low = set_below (2 ^ (64 * k)) (terms_of terms) at h.falls (omega (arith, length_terms terms)) in
+      (omega (arith, stride_in at terms.count terms.width (length terms.words.now) l terms.within), omega (arith, h.there), h.short, rw (set_words at l) at low, h.low)
 
-    -- its set uses k words
-    pub set_low : num (words_at terms (at * (z.w + 1) + 1) z.w) < 2 ^ (64 * z.k)
-    set_low = rw term at (set_below (2 ^ (64 * z.k)) (decoded z.w n terms) at h.falls (omega (arith, length_decoded z.w n terms)))
-
-  module _ (at : ℕ) (cut : Cut (decoded z.w n terms) (num (words_at scratch (from + 1) z.w)) 0 n at) where
+  module _ (at : ℕ) (cut : Cut (terms_of terms) (num (words_at scratch (from + 1) terms.width)) 0 terms.count at) where
     -- the place, among as many terms as there are
-    whole : Cut (decoded z.w n terms) (num (words_at scratch (from + 1) z.w)) 0 (length (decoded z.w n terms)) at
-    whole = rw (length_decoded z.w n terms) cut
+    whole : Cut (terms_of terms) (num (words_at scratch (from + 1) terms.width)) 0 (length (terms_of terms)) at
+    whole = rw (length_terms terms) cut
 
     -- the next has its set
-    pub found_both : (c : ℕ) (l : at < n) → eqb (num (words_at terms (at * (z.w + 1) + 1) z.w)) (num (words_at scratch (from + 1) z.w)) ≡ true
-        → c ≡ (get_or scratch from 0 + get_or terms (at * (z.w + 1)) 0) % 2 ^ z.l
-        → Spotted (2 ^ z.l) (decoded z.w n terms) (get_or scratch from 0) (num (words_at scratch (from + 1) z.w)) (record { above = at; met = 1; c = c })
-    found_both c l e s = record {
+    pub found_both : (c : ℕ) (d : at < terms.count) → eqb (num (words_at terms.words.now (at * (terms.width + 1) + 1) terms.width)) (num (words_at scratch (from + 1) terms.width)) ≡ true
+        → c ≡ (get_or scratch from 0 + coefficient_of terms at) % 2 ^ l
+        → Spotted (2 ^ l) (terms_of terms) (get_or scratch from 0) (num (words_at scratch (from + 1) terms.width)) (record { above = at; met = true; c = c })
+    found_both c d e s = record {
       cut = whole;
-      both = λ a b. (refl, rw (term at l) s);
-      alone = λ k. absurd (k (omega (arith, length_decoded z.w n terms)) (rw (term at l) (eqb-true _ _ e)));
+      both = λ a b. (refl, s);
+      alone = λ k. absurd (k (omega (arith, length_terms terms)) (set_words at d ∙ eqb-true _ _ e));
     }
 
     -- it has another, or there is none
-    pub found_alone : (at < n → eqb (num (words_at terms (at * (z.w + 1) + 1) z.w)) (num (words_at scratch (from + 1) z.w)) ≡ false)
-        → Spotted (2 ^ z.l) (decoded z.w n terms) (get_or scratch from 0) (num (words_at scratch (from + 1) z.w)) (record { above = at; met = 0; c = get_or scratch from 0 })
+    pub found_alone : (at < terms.count → eqb (num (words_at terms.words.now (at * (terms.width + 1) + 1) terms.width)) (num (words_at scratch (from + 1) terms.width)) ≡ false)
+        → Spotted (2 ^ l) (terms_of terms) (get_or scratch from 0) (num (words_at scratch (from + 1) terms.width)) (record { above = at; met = false; c = get_or scratch from 0 })
     found_alone f = record {
       cut = whole;
-      both = λ a b. let l : at < n = omega (arith, length_decoded z.w n terms) in absurd (eqb-false _ _ (f l) (rw (term at l) at b));
+      both = λ a b. let d : at < terms.count = omega (arith, length_terms terms) in absurd (eqb-false _ _ (f d) (sym (set_words at d) ∙ b));
       alone = λ k. (refl, refl);
     }

@@ -1,6 +1,8 @@
 -- New terms put into a store in place: where each goes, and what is then in the store.
-use Rattle.std.specs.Prelude.{◌≡◌, List, ◌++◌, ℕ, ◌+◌, ◌-◌, ◌*◌, ◌%◌, ◌^◌, ◌<◌, ◌≤◌, length, get_or, take, drop}
+use Rattle.std.specs.Prelude.{◌≡◌, true, false, List, ◌++◌, ℕ, ◌+◌, ◌-◌, ◌*◌, ◌%◌, ◌^◌, ◌<◌, ◌≤◌, length, get_or, take, drop}
 use Rattle.rules.specs.Polynomial.{Polynomial, Below, Coefficients, gather}
+use Rattle.words.specs.Listed.{terms_of}
+use Rattle.words.specs.declared.listed.Terms.{Terms}
 use Rattle.words.specs.Numbers.{num, words_at}
 use Rattle.words.specs.Stored.{decoded}
 use Rattle.tally.specs.Marks.{Numbered}
@@ -10,23 +12,21 @@ use Rattle.weave.specs.declared.weaving.Sizes.{Sizes}
 use Rattle.splice.specs.declared.spots.Spot.{Spot}
 
 -- what is asked to find where a new term goes: the terms' sets fall and use k words, as its own does
-pub record Spotting (terms : List ℕ) (n : ℕ) (z : Sizes) (scratch : List ℕ) (from : ℕ) : Type 0 where
-  pub room : n * (z.w + 1) ≤ length terms
-  pub narrow : z.w ≤ 16
-  pub some : 0 < z.w
-  pub short : z.k ≤ z.w
-  pub l_high : z.l ≤ 64
-  pub falls : Below (2 ^ (64 * z.k)) (decoded z.w n terms)
-  pub coefficients : Coefficients (2 ^ z.l) (decoded z.w n terms)
-  pub there : from + (z.w + 1) ≤ length scratch
-  pub low : num (words_at scratch (from + 1) z.w) < 2 ^ (64 * z.k)
-  pub small : get_or scratch from 0 < 2 ^ z.l
+pub record Spotting (terms : Terms) (k l : ℕ) (scratch : List ℕ) (from : ℕ) : Type 0 where
+  pub some : 0 < terms.width
+  pub short : k ≤ terms.width
+  pub l_high : l ≤ 64
+  pub falls : Below (2 ^ (64 * k)) (terms_of terms)
+  pub coefficients : Coefficients (2 ^ l) (terms_of terms)
+  pub there : from + (terms.width + 1) ≤ length scratch
+  pub low : num (words_at scratch (from + 1) terms.width) < 2 ^ (64 * k)
+  pub small : get_or scratch from 0 < 2 ^ l
 
 -- where the term (c, s) goes among those of p: behind all that are above it; with the next one where that has its set
 pub record Spotted (m : ℕ) (p : Polynomial) (c s : ℕ) (r : Spot) : Type 0 where
   pub cut : Cut p s 0 (length p) r.above
-  pub both : r.above < length p → (get_or p r.above (0, 0)).1 ≡ s → (r.met ≡ 1) × (r.c ≡ (c + (get_or p r.above (0, 0)).0) % m)
-  pub alone : (r.above < length p → (get_or p r.above (0, 0)).1 ≡ s → ⊥) → (r.met ≡ 0) × (r.c ≡ c)
+  pub both : r.above < length p → (get_or p r.above (0, 0)).1 ≡ s → (r.met ≡ true) × (r.c ≡ (c + (get_or p r.above (0, 0)).0) % m)
+  pub alone : (r.above < length p → (get_or p r.above (0, 0)).1 ≡ s → ⊥) → (r.met ≡ false) × (r.c ≡ c)
 
 -- the store's terms from the `first`-th on
 abbrev pub terms_left : Sizes → List ℕ → ℕ → Polynomial

@@ -5,10 +5,12 @@ ghost use Rattle.rules.specs.Occurrences.{occurring};
 ghost use Rattle.tally.specs.Marks.{Moved};
 ghost use Rattle.splice.specs.Splicing.{Splicing, Spliced, terms_left, spliced};
 
-use crate::moving::{move_if, put};
-use crate::spots::{place, size};
+use crate::spots::place;
+use crate::writing::put;
 use tally::mark_change;
 use weave::weaving::Sizes;
+use words::listed::Terms;
+use words::stretches::{clear, shift};
 
 // Puts the new terms from the `used`-th on among the store's from the `first`-th on, all of them from the `to`-th place on: how many
 // terms that are. A stretch that goes further in front is moved before what stands behind it, and one that goes further behind after
@@ -31,26 +33,32 @@ fn splice(
     let here = first * stride;
     let there = to * stride;
     if used == z.made {
-        words::stretches::shift(store, here, there, left * stride);
+        shift(store, here, there, left * stride);
         return left;
     }
     let from = (z.limit + used) * stride;
-    let s = place(&store[here..], left, z, scratch, from);
-    let above = s.above;
-    let count = size(s.c);
-    move_if(store, there < here, here, there, above * stride);
-    let rest = splice(
-        store,
-        z,
-        scratch,
-        first + above + s.met,
-        used + 1,
-        to + above + count,
-        numbers,
-    );
-    move_if(store, here < there, here, there, above * stride);
-    put(scratch, from + 1, z.w, store, (to + above) * stride, s.c);
-    mark_change(scratch, from, z.k, s.met, count, numbers);
+    let terms = Terms {
+        words: &store[here..],
+        count: left,
+        width: z.w,
+    };
+    let spot = place(&terms, z.k, z.l, scratch, from);
+    let above = spot.above;
+    let at = to + above;
+    let met = usize::from(spot.met);
+    let count = usize::from(spot.c != 0);
+    let to_front = there < here;
+    if to_front {
+        shift(store, here, there, above * stride);
+    }
+    let next = first + above + met;
+    let rest = splice(store, z, scratch, next, used + 1, at + count, numbers);
+    let to_back = here < there;
+    if to_back {
+        shift(store, here, there, above * stride);
+    }
+    put(scratch, from + 1, z.w, store, at * stride, spot.c);
+    mark_change(scratch, from, z.k, spot.met, spot.c != 0, numbers);
     above + count + rest
 }
 
@@ -65,7 +73,7 @@ pub fn splice_all(store: &mut [u64], z: Sizes, scratch: &[u64], numbers: &mut [u
 {
     let held = splice(store, z, scratch, z.end, 0, 0, numbers);
     if held < z.n {
-        words::stretches::clear(store, held * (z.w + 1), z.n * (z.w + 1));
+        clear(store, held * (z.w + 1), z.n * (z.w + 1));
     }
     held
 }

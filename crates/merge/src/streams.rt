@@ -1,16 +1,15 @@
-// The streams of a step: the terms of the store, each under the stream's multiplier and mask. A stream is a place in the store.
+// The streams of a gate: the terms, each under the multiplier and the mask of a stream. A stream is a place in the terms.
 ghost use Rattle.std.specs.Prelude.{◌≡◌, ℕ, ◌+◌, ◌*◌, ◌<◌, ◌≤◌, length, get_or};
-ghost use Rattle.words.specs.Numbers.{num, words_at};
-ghost use Rattle.words.specs.Stored.{decoded};
-ghost use Rattle.merge.specs.Streams.{streams_of, held_in, multiplier_of, Next, Held};
+ghost use Rattle.merge.specs.Streams.{streams_of, Held, Masks};
 
-// A gate v over the variables x, y and z, the bits of a coefficient, and the words that a set uses. Where there is no z it is 0.
+use gates::apart::Variables;
+use words::listed::Terms;
+
+// A gate v over its variables, the bits of a coefficient, and the words that a set uses.
 #[derive(Clone, Copy)]
 pub struct Gate {
     pub v: usize,
-    pub x: usize,
-    pub y: usize,
-    pub z: usize,
+    pub over: Variables,
     pub l: u32,
     pub k: usize,
 }
@@ -20,78 +19,76 @@ pub struct Gate {
 pub fn streams_of(g: Gate) -> usize
     ensures { result ≡ streams_of g }
 {
-    if g.z == 0 {
+    if g.over.z == 0 {
         return 4;
     }
     8
 }
 
-// Which of x, y and z the set at word `at` has, as a subset. Most gates have no z: none is looked for then.
-#[tactic(auto, using(gates::proofs::Flipped::bit_lt))]
-fn held_in(store: &[u64], at: usize, w: usize, g: Gate) -> usize
-    requires { (at + w ≤ length store.now) × (g.x < 64 * w) × (g.y < 64 * w) × (g.z < 64 * w) }
-    ensures { result ≡ held_in g (num (words_at store.now at w)) }
-{
-    let x = words::sets::holds(store, at, w, g.x);
-    let y = words::sets::holds(store, at, w, g.y);
-    if g.z == 0 {
-        return x + 2 * y;
-    }
-    let z = words::sets::holds(store, at, w, g.z);
-    x + 2 * y + 4 * z
+// The terms in the streams of a gate, eight multipliers and a mask for each stream.
+#[derive(Clone, Copy)]
+pub struct Streams<'a> {
+    pub terms: Terms<'a>,
+    pub gate: Gate,
+    pub multipliers: &'a [i16],
+    pub masks: &'a [u64],
+    pub ghost held: { Held terms gate multipliers.now },
+    pub ghost masked: { Masks terms gate masks.now },
 }
 
-// The multiplier in stream j of the set at word `at`.
-#[tactic(auto, using(crate::proofs::Flow::held_lt))]
-pub fn multiplier_of(
-    store: &[u64],
-    at: usize,
-    w: usize,
-    g: Gate,
-    multipliers: &[i16],
-    j: usize,
-) -> i16
-    requires { (at + w ≤ length store.now) × (g.v < 64 * w) × (g.x < 64 * w) × (g.y < 64 * w) × (g.z < 64 * w) × (j < 8) × (length multipliers.now ≡ 64) }
-    ensures { result ≡ multiplier_of g multipliers.now j (num (words_at store.now at w)) }
-{
-    if words::sets::holds(store, at, w, g.v) == 0 {
-        return 0;
-    }
-    multipliers[held_in(store, at, w, g) * 8 + j]
-}
+impl Streams<'_> {
+    ghost use Rattle.words.specs.Listed.{set_of};
+    ghost use Rattle.merge.specs.Streams.{held_in, multiplier_of};
+    ghost use Rattle.merge.specs.Heads.{Next};
 
-// The first term from `from` on that is in stream j, or n.
-pub fn next(
-    store: &[u64],
-    n: usize,
-    w: usize,
-    g: Gate,
-    multipliers: &[i16],
-    j: usize,
-    from: usize,
-) -> usize
-    requires { Held store.now n w g multipliers.now × (j < 8) × (from ≤ n) }
-    ensures { Next g multipliers.now j (decoded w n store.now) from result }
-{
-    let stride = w + 1;
-    let mut i = from;
-    while i < n {
-        if multiplier_of(store, i * stride + 1, w, g, multipliers, j) != 0 {
-            return i;
+    // Which of x, y and z term i has, as a subset. Most gates have no z: none is looked for then.
+    #[tactic(auto, using(rules::proofs::Bits::bit_digit))]
+    fn held_in(&self, i: usize) -> usize
+        requires { i < self.now.terms.count }
+        ensures { result ≡ held_in self.now.gate (set_of self.now.terms i) }
+    {
+        let over = self.gate.over;
+        let x = usize::from(self.terms.holds(i, over.x));
+        let y = usize::from(self.terms.holds(i, over.y));
+        if over.z == 0 {
+            return x + 2 * y;
         }
-        i += 1;
+        let z = usize::from(self.terms.holds(i, over.z));
+        x + 2 * y + 4 * z
     }
-    i
-}
 
-// Each stream at its first term.
-pub fn begin(store: &[u64], n: usize, w: usize, g: Gate, multipliers: &[i16], at: &mut [usize])
-    requires { Held store.now n w g multipliers.now × (length at.old ≤ 8) }
-    ensures { (j : ℕ) → j < length at.old → Next g multipliers.now j (decoded w n store.now) 0 (get_or at.new j 0) }
-{
-    let mut j = 0;
-    while j < at.len() {
-        at[j] = next(store, n, w, g, multipliers, j, 0);
-        j += 1;
+    // The multiplier of term i in stream j.
+    #[tactic(auto, using(crate::proofs::Flow::held_lt))]
+    pub(crate) fn multiplier_of(&self, i: usize, j: usize) -> i16
+        requires { (i < self.now.terms.count) × (j < 8) }
+        ensures { result ≡ multiplier_of self.now.gate self.now.multipliers.now j (set_of self.now.terms i) }
+    {
+        if !self.terms.holds(i, self.gate.v) {
+            return 0;
+        }
+        self.multipliers[self.held_in(i) * 8 + j]
+    }
+
+    // The first term from `low` on that is in stream j, or the end.
+    pub(crate) fn next(&self, j: usize, low: usize) -> usize
+        requires { (j < 8) × (low ≤ self.now.terms.count) }
+        ensures { Next self.now j low result }
+    {
+        for i in low..self.terms.count {
+            if self.multiplier_of(i, j) != 0 {
+                return i;
+            }
+        }
+        self.terms.count
+    }
+
+    // Each stream at its first term.
+    pub(crate) fn begin(&self, at: &mut [usize])
+        requires { length at.old ≤ 8 }
+        ensures { (j : ℕ) → j < length at.old → Next self.now j 0 (get_or at.new j 0) }
+    {
+        for j in 0..at.len() {
+            at[j] = self.next(j, 0);
+        }
     }
 }

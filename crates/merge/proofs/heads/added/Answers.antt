@@ -1,17 +1,13 @@
--- The multipliers 1 and -1, and the others.
+-- A number below 0 is 2^64 less as many: times x, that falls away modulo 2^l.
+use Rattle.std.proofs.Common.{◌≡◌, ap, ◌∙◌}
+use mir.Syntax.{w16, w64}
+use mir.Val.{of_z}
 use mir.Facts.{to_z-of_z}
-use Rattle.gates.proofs.Whole.{scaled_one, scaled_negated}
-use Rattle.merge.proofs.Scaled.{from_bits}
+use Rattle.merge.proofs.Scaled.{times_whole}
 use Rattle.merge.proofs.heads.added.Goals as goal
-
-pub returns-then-k-eq1 : goal.returns-then-k-eq1
-returns-then-k-eq1 c =
-    rw (scaled_one _ _ _ (from_bits _ 1 c.ranges.k c.if-k-eq1.true)) c.sum.ensures
-
-pub returns-then-k-eqminus1 : goal.returns-then-k-eqminus1
-returns-then-k-eqminus1 c =
-    rw (scaled_negated _ _ _ (from_bits _ 65535 c.ranges.k c.if-k-eqminus1.true)) c.difference.ensures
 
 pub returns : goal.returns
 returns c =
-    rw (to_z-of_z c.ranges.k) at c.repeated.ensures
+    let same = c.from.ensures ∙ to_z-of_z {w = w16} c.ranges.k in
+    let times : c.cast_unsigned-times.result ≡ of_z w64 c.args.k = c.cast_unsigned-times.ensures ∙ ap (of_z w64) (to_z-of_z {w = w64} (record { sfits = c.from.type_inv }) ∙ same) in
+    rw times at c.sum.ensures ∙ times_whole c.args.c c.args.x c.args.l c.args.k c.ranges.k c.requires.0 c.requires.1

@@ -3,21 +3,24 @@ use mathlib.Core.Path.{◌≡◌, refl, ap, sym, ◌∙◌}
 use mathlib.Core.Bool.{Bool, true, false, cond}
 use mathlib.Core.List.{[], ◌∷◌, ◌++◌}
 use mathlib.Core.Logic.{⊎_elim}
-use Prim.Native.Nat.{ℕ, zero, suc, ◌+◌, ◌*◌, ◌%◌, ◌<◌, ◌≤◌}
+use Prim.Native.Nat.{ℕ, zero, suc, ◌+◌, ◌*◌, ◌%◌, ◌^◌, ◌<◌, ◌≤◌}
 use native.Mathlib.Nat.{add-mod-mod}
 use native.Mathlib.Omega.{arith}
 use lib.Dec.{ltb, eqb}
 use lib.ListN.{length, take}
 use borrow.Author.Tests.{eq-eqb, ne_eqb}
+use Rattle.rules.specs.Netlist.{EveryVariable}
 use Rattle.rules.specs.Values.{bit}
-use Rattle.rules.specs.Polynomial.{Term, Polynomial, Below, Coefficients, coefficient_at, hit, keep, place, insert, gather}
+use Rattle.rules.specs.Polynomial.{Term, Polynomial, Below, Under, Coefficients, coefficient_at, hit, keep, place, insert, gather}
 use Rattle.rules.specs.Steps.{where_held, replaced, all_replaced}
 use Rattle.rules.specs.declared.records.Record.{Record}
 use Rattle.rules.proofs.Terms.{coefficient_append}
-use Rattle.rules.proofs.Gathered.{gather_same, gather_coefficient, unique, under_of}
+use Rattle.rules.proofs.AllSets.{AllSets, Joins, all_terms_replaced, sets_under}
+use Rattle.rules.proofs.Bits.{bit_cases, with_variable_under}
+use Rattle.rules.proofs.Gathered.{gather_below, gather_same, gather_coefficient, unique, under_of}
+use Rattle.rules.proofs.Sound.{every_variable}
 use Rattle.weave.specs.Seeking.{Free}
 use Rattle.weave.specs.Weaving.{holding, without}
-use Rattle.gates.proofs.Flipped.{bit_two}
 
 -- a term without v stands in the first part
 pub first : (v : ℕ) (t : Term) (p : Polynomial) → bit t.1 v ≡ 0 → (without v (t ∷ p) ≡ t ∷ without v p) × (holding v (t ∷ p) ≡ holding v p)
@@ -36,7 +39,7 @@ without_length v [] = omega arith
 without_length v (t ∷ p) = ⊎_elim
     (λ (e : bit t.1 v ≡ 0). rw (first v t p e).0 (omega (arith, without_length v p)))
     (λ (e : bit t.1 v ≡ 1). rw (second v t p e).0 (omega (arith, without_length v p)))
-    (bit_two t.1 v)
+    (bit_cases t.1 v)
 
 -- where no term holds v, the second part is empty
 holding_none : (v : ℕ) (p : Polynomial) → Free v p 0 (length p) → holding v p ≡ []
@@ -65,7 +68,7 @@ module _ (m v : ℕ) (r : Record) where
   parts (t ∷ p) u = ⊎_elim
       (λ (e : bit t.1 v ≡ 0). rw ((first v t p e).0, (first v t p e).1, coefficient_append (replaced m v r t) (all_replaced m v r p) u, stays t u e) (omega (arith, parts p u)))
       (λ (e : bit t.1 v ≡ 1). rw ((second v t p e).0, (second v t p e).1, coefficient_append (replaced m v r t) (all_replaced m v r p) u, coefficient_append (replaced m v r t) (all_replaced m v r (holding v p)) u) (omega (arith, parts p u)))
-      (bit_two t.1 v)
+      (bit_cases t.1 v)
 
   -- both parts gathered are the step
   both : 0 < m → (p : Polynomial) → gather m (without v p ++ all_replaced m v r (holding v p)) ≡ gather m (all_replaced m v r p)
@@ -124,3 +127,21 @@ replaced_absent m v r (t ∷ p) h = rw (h 0 (omega arith) (omega arith), replace
 pub step_absent : (m v : ℕ) (r : Record) (b : ℕ) (p : Polynomial) → 0 < m → Below b p → Coefficients m p → Free v p 0 (length p) → gather m (all_replaced m v r p) ≡ p
 step_absent m v r b p h l c a =
     rw (replaced_absent m v r p a) (sym (unique m b p p h l c (under_of b b p (omega arith) l) (λ u. refl)))
+
+-- the sets of those terms of a list that hold v are below what all of them are
+holding_under : (v b : ℕ) (p : Polynomial) → Under b p → AllSets (λ s. s < b) (holding v p)
+unfolding holding
+holding_under v b [] h = tt
+holding_under v b (t ∷ p) h = ⊎_elim
+    (λ (e : bit t.1 v ≡ 0). rw (first v t p e).1 (holding_under v b p h.1))
+    (λ (e : bit t.1 v ≡ 1). rw (second v t p e).1 (h.0, holding_under v b p h.1))
+    (bit_cases t.1 v)
+
+-- what becomes of those falls below the same power of two, where the record reads variables below v
+pub replaced_falls : (m e v : ℕ) (r : Record) (p : Polynomial) → v < e → EveryVariable (λ u. u < v) r → Below (2 ^ e) p → Below (2 ^ e) (gather m (all_replaced m v r (holding v p)))
+replaced_falls m e v r p l low b =
+    let P : ℕ → Type 0 = λ s. s < 2 ^ e in
+    gather_below m (2 ^ e) (all_replaced m v r (holding v p)) (sets_under (2 ^ e) (all_replaced m v r (holding v p))
+    (all_terms_replaced P P m v (λ s d h. h) (λ s d h. omega arith) r
+    (every_variable (λ u. u < v) (Joins P) (λ u d above s h. with_variable_under e s u (omega arith) h) r low)
+    (holding v p) (holding_under v (2 ^ e) p (under_of (2 ^ e) (2 ^ e) p (omega arith) b))))

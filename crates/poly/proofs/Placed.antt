@@ -7,9 +7,10 @@ use Prim.Native.Nat.{ℕ, zero, suc, ◌+◌, ◌-◌, ◌*◌, ◌^◌, ◌<◌
 use native.Mathlib.Nat.{zero-add}
 use native.Mathlib.Omega.{arith}
 use lib.Dec.{leb, ltb}
-use lib.ListN.{length, get_or, drop}
+use lib.ListN.{length, get_or, take, drop}
+use Rattle.std.proofs.Common.{Some}
 use lib.Pow.{pow_mono}
-use borrow.Author.Tests.{leb-true, ltb-true, le-leb, lt-leb}
+use borrow.Author.Tests.{leb-true, ltb-true, le-leb}
 use Rattle.rules.specs.Judging.{polynomial_words, padded}
 use Rattle.rules.specs.Occurrences.{occurring}
 use Rattle.rules.specs.Polynomial.{Polynomial, Below, gather}
@@ -17,7 +18,7 @@ use Rattle.rules.specs.Values.{bit}
 use Rattle.rules.proofs.Bits.{bit_cases}
 use Rattle.words.specs.Numbers.{num, words_at}
 use Rattle.words.specs.Stored.{decoded}
-use Rattle.words.proofs.Stored.{decoded_drop}
+use Rattle.words.proofs.Stored.{decoded_drop, decoded_take}
 use Rattle.weave.specs.Seeking.{Last}
 use Rattle.weave.specs.Weaving.{without, old_terms, new_terms}
 use Rattle.weave.specs.declared.weaving.Sizes.{Sizes}
@@ -25,10 +26,9 @@ use Rattle.weave.proofs.Falling.{below_drop, coefficients_drop}
 use Rattle.weave.proofs.Tops.{first_below, all_below, free_behind}
 use Rattle.weave.proofs.Without.{without_held, without_rest}
 use Rattle.splice.specs.Splicing.{Splicing, terms_left, spliced}
-use Rattle.tally.specs.Marks.{Counting, Marked, Moved, Renumbered}
-use Rattle.tally.proofs.Marking.{counting_front, occurring_rest}
+use Rattle.tally.specs.Marks.{Marked, Moved, Renumbered}
+use Rattle.tally.proofs.Marking.{occurring_rest}
 use Rattle.tally.proofs.Moving.{moved_add, moved_gone}
-use Rattle.poly.proofs.Numbered.{counting_old}
 use Rattle.poly.specs.Stepping.{Both, Numbering, Together, in_place}
 
 -- what being put in place says
@@ -46,21 +46,6 @@ placed z store = go (leb z.made 16) (leb (z.n - z.end + z.made) z.limit) (ltb (n
     go true true false x y w e = absurd (false≢true e)
     go true false c x y w e = absurd (false≢true e)
     go false b c x y w e = absurd (false≢true e)
-
--- there are too many new terms
-pub too_many : (z : Sizes) (store : List ℕ) → 16 < z.made → false ≡ in_place z store
-unfolding in_place
-too_many z store h = rw (lt-leb z.made 16 h)
-
--- there might be no room
-pub too_near : (z : Sizes) (store : List ℕ) → z.made ≤ 16 → z.limit < z.n - z.end + z.made → false ≡ in_place z store
-unfolding in_place
-too_near z store h l = rw (le-leb z.made 16 h, lt-leb (z.n - z.end + z.made) z.limit l)
-
--- else the first set decides
-pub first_decides : (z : Sizes) (store : List ℕ) (r : Bool) → z.made ≤ 16 → z.n - z.end + z.made ≤ z.limit → r ≡ ltb (num (words_at store 1 z.w)) (2 ^ (z.v + 1)) → r ≡ in_place z store
-unfolding in_place
-first_decides z store r h l e = rw (le-leb z.made 16 h, le-leb (z.n - z.end + z.made) z.limit l) e
 
 module _ (v : ℕ) (p : Polynomial) (end : ℕ) (f : Below (2 ^ (v + 1)) p) (l : Last v p end) where
   -- a term in front of the last that holds v holds it too
@@ -118,24 +103,21 @@ module _ (z : Sizes) (store scratch : List ℕ) (h : Both z store scratch) (q : 
       (rest_terms ∙ sym (front_passed z.v (old_terms z store) z.end (all_below (2 ^ (64 * z.k)) (2 ^ (z.v + 1)) z.w z.n store h.task.falls q.leads) h.last))
 
   pub together_placed : (r : ℕ) (store' : List ℕ) → r ≡ length (spliced z store scratch z.end 0) → r ≤ z.limit → store' ≡ padded (length store) (polynomial_words z.w (spliced z store scratch z.end 0))
-      → Together z (gather (2 ^ z.l) (without z.v (old_terms z store) ++ new_terms z scratch)) store scratch r store' scratch
+      → Together z (gather (2 ^ z.l) (without z.v (old_terms z store) ++ new_terms z scratch)) store scratch (Some r) store' scratch
   together_placed r store' e l s =
       let t : leb (length (gather (2 ^ z.l) (without z.v (old_terms z store) ++ new_terms z scratch))) z.limit ≡ true = le-leb (length (gather (2 ^ z.l) (without z.v (old_terms z store) ++ new_terms z scratch))) z.limit (rw (← same, ← e) l) in
-      record { counted = rw t (e ∙ ap length same); stored = rw (t, ← same) s; kept = refl }
+      record { counted = rw t (ap Some (e ∙ ap length same)); stored = rw (t, ← same) s; kept = refl }
 
-  -- what is asked to count the terms in front
-  pub to_count : Counting store z.end z.w z.k lent
-  to_count = counting_front (counting_old z store scratch h named) z.end h.task.end_in
-
-  -- these go, and then the new terms come
+  -- the terms in front go, and then the new ones come
   pub numbers_placed : (r : ℕ) (n₀ n₁ n₂ : List ℕ) → r ≡ length (spliced z store scratch z.end 0) → r ≤ z.limit
       → Marked 4294967295 (occurring (decoded z.w z.end store)) n₀ n₁
       → Moved (occurring (terms_left z store z.end)) (occurring (spliced z store scratch z.end 0)) n₁ n₂
       → Renumbered z.limit (old_terms z store) (gather (2 ^ z.l) (without z.v (old_terms z store) ++ new_terms z scratch)) n₀ n₂
   numbers_placed r n₀ n₁ n₂ e l gone come =
       let few : length (gather (2 ^ z.l) (without z.v (old_terms z store) ++ new_terms z scratch)) ≤ z.limit = rw (← same, ← e) l in
+      let front : take z.end (old_terms z store) ≡ decoded z.w z.end store = sym (decoded_take z.w z.end z.n store h.task.end_in) in
       let rest : (u : ℕ) → occurring (old_terms z store) u ≡ occurring (decoded z.w z.end store) u + occurring (terms_left z store z.end) u =
-      λ u. rw rest_terms (occurring_rest (counting_old z store scratch h named) z.end h.task.end_in u) in
+      λ u. rw (← front, rest_terms) (occurring_rest z.end (old_terms z store) u) in
       record {
         moved = λ d. rw (← same) (moved_add rest (λ u. sym (zero-add _)) (moved_gone (λ u. refl) gone) come);
         stayed = λ d. absurd (omega arith);

@@ -1,6 +1,7 @@
 -- Laws of the step in the store: the look for v, and what is moved and cleared.
 use mathlib.Core.Path.{◌≡◌, refl, ap, sym, ◌∙◌}
-use mathlib.Core.Bool.{Bool, true, false, cond}
+use mathlib.Core.Bool.{Bool, true, false}
+use Rattle.std.proofs.Common.{None, Some, suc, add-one, take-append-drop}
 use mathlib.Core.List.{List, ◌++◌, append_assoc}
 use Prim.Native.Nat.{ℕ, ◌+◌, ◌-◌, ◌*◌, ◌^◌, ◌<◌, ◌≤◌}
 use native.Mathlib.Nat.{sub-zero, add-mul, mul-le-mul_right}
@@ -9,7 +10,7 @@ use lib.Dec.{ltb, leb}
 use lib.IntN.{ℤ}
 use lib.ListN.{length, get_or, take, drop, replicate, length-append, length-drop, length-replicate, replicate-append-replicate}
 use lib.Pow.{pow_pos, pow_mono}
-use lib.Seq.{drop-drop, take-add, take_at, drop_at, length-take-le, get_or-drop}
+use lib.Seq.{drop-drop, take-add, take_at, drop_at, length-take-le}
 use borrow.Author.Tests.{ltb-true, ltb-false, le-leb, lt-leb}
 use Rattle.rules.specs.Judging.{polynomial_words, padded}
 use Rattle.rules.specs.Netlist.{EveryVariable}
@@ -20,14 +21,13 @@ use Rattle.rules.specs.declared.records.Record.{Record}
 use Rattle.rules.specs.declared.records.Record.TheVariants.{Gate, Cell}
 use Rattle.rules.proofs.Bits.{bit_out}
 use Rattle.words.specs.Stored.{decoded}
-use Rattle.words.proofs.Stored.{length_decoded, decoded_drop, stride_le}
-use Rattle.words.proofs.Encoded.{zeros_later, length_polynomial_words, polynomial_words_append, words_decoded, zeros_behind}
+use Rattle.words.proofs.Stored.{length_decoded, decoded_drop, decoded_front, decoded_split, stride_le}
+use Rattle.words.proofs.Encoded.{zeros_later, length_polynomial_words, words_decoded, zeros_behind}
 use Rattle.gates.specs.Apart.{Making, Apart}
 use Rattle.gates.specs.Rows.{row_of}
 use Rattle.weave.specs.Seeking.{Last, Uses}
-use Rattle.weave.specs.Weaving.{old_terms, Joined}
-use Rattle.weave.specs.Written.{Kept}
-use Rattle.weave.proofs.Growing.{behind_limit, kept_behind}
+use Rattle.weave.specs.Weaving.{old_terms}
+use Rattle.weave.proofs.Growing.{behind_limit}
 use Rattle.weave.proofs.Places.{set_below}
 use Rattle.tally.specs.Marks.{Renumbered}
 use Rattle.tally.proofs.Moving.{moved_same}
@@ -38,46 +38,31 @@ use Rattle.weave.specs.declared.weaving.Sizes.{Sizes}
 use Rattle.poly.proofs.Parts.{step_absent}
 use Rattle.poly.proofs.Restored.{front_again}
 
--- the larger of two numbers
-pub larger_than : (a b u : ℕ) → u ≡ cond (ltb a b) b a → (a ≤ u) × (b ≤ u) × ((c : ℕ) → a ≤ c → b ≤ c → u ≤ c)
-larger_than a b u e = go (ltb a b) refl e
-  where
-    go : (t : Bool) → ltb a b ≡ t → u ≡ cond t b a → (a ≤ u) × (b ≤ u) × ((c : ℕ) → a ≤ c → b ≤ c → u ≤ c)
-    go true d f = let l : a < b = ltb-true a b d in (omega arith, omega arith, λ c p q. omega arith)
-    go false d f = let l : b ≤ a = ltb-false a b d in (omega arith, omega arith, λ c p q. omega arith)
-
--- the least of two numbers; not 0 if neither is
-pub least_of : (a b u : ℕ) → u ≡ cond (ltb a b) a b → (u ≤ a) × (0 < a → 0 < b → 0 < u)
-least_of a b u e = go (ltb a b) refl e
-  where
-    go : (t : Bool) → ltb a b ≡ t → u ≡ cond t a b → (u ≤ a) × (0 < a → 0 < b → 0 < u)
-    go true d f = let l : a < b = ltb-true a b d in (omega arith, λ p q. omega arith)
-    go false d f = let l : b ≤ a = ltb-false a b d in (omega arith, λ p q. omega arith)
-
 -- what stands behind word k + n where the first k words are others
 behind_front : (k n : ℕ) (p d : List ℕ) → length p ≡ k → drop (k + n) (p ++ drop k d) ≡ drop (k + n) d
 behind_front k n p d l =
     sym (drop-drop n k (p ++ drop k d)) ∙ ap (λ (x : List ℕ). drop n x) (drop_at p (drop k d) k l) ∙ drop-drop n k d
 
--- a stretch of n words handed over, behind k that were: the store d
-pub store_more : (k n : ℕ) (s d e f g : List ℕ) → k ≤ length s → e ≡ take k s ++ drop k d → f ≡ replicate k 0 ++ drop k s
-    → g ≡ take k e ++ (take n (drop k f) ++ drop (k + n) e) → g ≡ take (k + n) s ++ drop (k + n) d
-store_more k n s d e f g h he hf hg =
-    let l : length (take k s) ≡ k = length-take-le k s h in
-    let a : take k e ≡ take k s = ap (λ (x : List ℕ). take k x) he ∙ take_at (take k s) (drop k d) k l in
-    let b : drop k f ≡ drop k s = ap (λ (x : List ℕ). drop k x) hf ∙ drop_at (replicate k 0) (drop k s) k (length-replicate k 0) in
-    let c : drop (k + n) e ≡ drop (k + n) d = ap (λ (x : List ℕ). drop (k + n) x) he ∙ behind_front k n (take k s) d l in
-    hg ∙ rw (a, b, c, take-add k n s, append_assoc)
+-- a stretch up to word `next` handed over, behind k words that were: scratch s and the store d
+module _ (k next : ℕ) (s d e f e' f' : List ℕ) (o : k ≤ next) (h : k ≤ length s) (he : e ≡ take k s ++ drop k d) (hf : f ≡ replicate k 0 ++ drop k s) where
+  -- up to there
+  up_to : k + (next - k) ≡ next
+  up_to = omega arith
 
--- the scratch s
-pub scratch_more : (k n : ℕ) (s f g : List ℕ) → f ≡ replicate k 0 ++ drop k s → g ≡ take k f ++ (replicate (k + n - k) 0 ++ drop (k + n) f)
-    → g ≡ replicate (k + n) 0 ++ drop (k + n) s
-scratch_more k n s f g hf hg =
-    let l : length (replicate {A = ℕ} k 0) ≡ k = length-replicate k 0 in
-    let a : take k f ≡ replicate k 0 = ap (λ (x : List ℕ). take k x) hf ∙ take_at (replicate k 0) (drop k s) k l in
-    let c : drop (k + n) f ≡ drop (k + n) s = ap (λ (x : List ℕ). drop (k + n) x) hf ∙ behind_front k n (replicate k 0) s l in
-    let m : k + n - k ≡ n = omega arith in
-    hg ∙ rw (a, c, m, ← append_assoc, replicate-append-replicate {A = ℕ} k n 0)
+  -- the store
+  pub store_more : e' ≡ take k e ++ (take (next - k) (drop k f) ++ drop (k + (next - k)) e) → e' ≡ take next s ++ drop next d
+  store_more c =
+      let a : take k e ≡ take k s = ap (λ (x : List ℕ). take k x) he ∙ take_at (take k s) (drop k d) k (length-take-le k s h) in
+      let b : drop k f ≡ drop k s = ap (λ (x : List ℕ). drop k x) hf ∙ drop_at (replicate k 0) (drop k s) k (length-replicate k 0) in
+      let r : drop (k + (next - k)) e ≡ drop (k + (next - k)) d = ap (λ (x : List ℕ). drop (k + (next - k)) x) he ∙ behind_front k (next - k) (take k s) d (length-take-le k s h) in
+      c ∙ rw (a, b, r, ← append_assoc, ← take-add k (next - k) s, up_to)
+
+  -- and scratch
+  pub scratch_more : f' ≡ take k f ++ (replicate (next - k) 0 ++ drop next f) → f' ≡ replicate next 0 ++ drop next s
+  scratch_more c =
+      let a : take k f ≡ replicate k 0 = ap (λ (x : List ℕ). take k x) hf ∙ take_at (replicate k 0) (drop k s) k (length-replicate k 0) in
+      let r : drop (k + (next - k)) f ≡ drop (k + (next - k)) s = ap (λ (x : List ℕ). drop (k + (next - k)) x) hf ∙ behind_front k (next - k) (replicate k 0) s (length-replicate k 0) in
+      c ∙ rw (a, rw up_to at r, ← append_assoc, replicate-append-replicate {A = ℕ} k (next - k) 0, up_to)
 
 -- K words in front of a store that is zeros from word N on; cleared from there up to word U
 cleared_behind : (K N U : ℕ) (front store d d' : List ℕ) → K ≤ U → N ≤ U → U ≤ length store → length front ≡ K → drop N store ≡ replicate (length store - N) 0
@@ -137,28 +122,42 @@ settled n w at out U store scratch d e d' h room both hs hu hn hl z hd hm k =
     let i = shift_room n w at out (length store) h room both in
     rw m (moved (out * (w + 1)) (at * (w + 1)) ((n - at) * (w + 1)) store scratch d e hs i.0 i.1 hd hm (n * (w + 1)) U d' (rw m at hu) hn hl z (rw m at k))
 
--- what is left of the store's terms are some of them
-pub at_in : (z : Sizes) (r : Parts) (q out : Polynomial) (store : List ℕ) → Joined z.limit q (old_terms z store) r out → r.at ≤ z.n
-at_in z r q out store g = omega (arith, g.within, length_decoded z.w z.n store)
+-- what stands behind the words of k terms does not matter to them
+decoded_taken : (w k : ℕ) (s t : List ℕ) → k * (w + 1) ≤ length s → decoded w k (take (k * (w + 1)) s ++ t) ≡ decoded w k s
+decoded_taken w k s t h =
+    let n : k * suc w ≤ length (take (k * (w + 1)) s) = rw (← add-one w) (omega (arith, length-take-le (k * (w + 1)) s h)) in
+    decoded_front w k (take (k * (w + 1)) s) t n ∙ sym (decoded_front w k (take (k * (w + 1)) s) (drop (k * (w + 1)) s) n) ∙ ap (decoded w k) (take-append-drop (k * (w + 1)) s)
 
 -- scratch has room for `limit` terms
 pub scratch_front : (z : Sizes) (store scratch : List ℕ) → Both z store scratch → z.limit * (z.w + 1) ≤ length scratch
 scratch_front z store scratch b = omega (arith, b.task.scratch_room, add-mul z.limit z.made (z.w + 1))
 
+-- there is no room for all terms, and the front of scratch is zeros: all is as it was
+pub together_none : (z : Sizes) (q : Polynomial) (store scratch scratch' : List ℕ) → Both z store scratch → z.limit < length q
+    → scratch' ≡ replicate (z.limit * (z.w + 1)) 0 ++ drop (z.limit * (z.w + 1)) scratch → Together z q store scratch None store scratch'
+together_none z q store scratch scratch' b l c =
+    let u : leb (length q) z.limit ≡ false = lt-leb (length q) z.limit l in
+    record {
+      counted = rw u;
+      stored = rw u;
+      kept = front_again (z.limit * (z.w + 1)) (z.limit * (z.w + 1)) scratch scratch scratch' (omega arith) b.clean refl c;
+    }
+
 -- the weave left the scratch `made`, with r.out terms in front of it
-module _ (z : Sizes) (r : Parts) (q : Polynomial) (store scratch made store' scratch' : List ℕ) (b : Both z store scratch) (g : Joined z.limit q (old_terms z store) r (decoded z.w r.out made))
-    (t : Kept z.w z.limit r.out scratch made) (lm : length made ≡ length scratch) where
+module _ (z : Sizes) (r : Parts) (q : Polynomial) (store scratch made : List ℕ) (b : Both z store scratch)
+    (g : (r.out ≤ z.limit) × (r.at ≤ length (old_terms z store)) × (decoded z.w r.out made ++ drop r.at (old_terms z store) ≡ q))
+    (t : drop (r.out * (z.w + 1)) made ≡ drop (r.out * (z.w + 1)) scratch) (lm : length made ≡ length scratch) where
   -- the terms left are terms of the store
   pub left_in : r.at ≤ z.n
-  left_in = at_in z r q (decoded z.w r.out made) store g
+  left_in = omega (arith, g.1, length_decoded z.w z.n store)
 
   -- both parts are all terms
-  pub counted : r.out ≤ z.limit → length q ≡ r.out + (z.n - r.at)
-  counted h = ap length (sym (g.fits h)) ∙ simp (length-append, length-drop) (omega (arith, length_decoded z.w z.n store, length_decoded z.w r.out made))
+  pub counted : length q ≡ r.out + (z.n - r.at)
+  counted = ap length (sym g.2) ∙ simp (length-append, length-drop) (omega (arith, length_decoded z.w z.n store, length_decoded z.w r.out made))
 
   -- the terms in front of scratch lie inside
-  pub front_in : r.out ≤ z.limit → r.out * (z.w + 1) ≤ length made
-  front_in h = omega (arith, scratch_front z store scratch b, mul-le-mul_right (z.w + 1) h, lm)
+  pub front_in : r.out * (z.w + 1) ≤ length made
+  front_in = omega (arith, scratch_front z store scratch b, mul-le-mul_right (z.w + 1) g.0, lm)
 
   -- what putting both parts together asks
   pub to_settle : r.out + (z.n - r.at) ≤ z.limit
@@ -169,48 +168,58 @@ module _ (z : Sizes) (r : Parts) (q : Polynomial) (store scratch made store' scr
     left_in,
     b.task.room,
     stride_le (r.out + (z.n - r.at)) z.limit z.w (length store) h b.store_room,
-    front_in (omega arith),
+    front_in,
     b.behind,
   )
 
   -- both parts fit: their terms are in the store
-  pub together_fits : r.out + (z.n - r.at) ≤ z.limit → ((i : ℕ) → get_or made i 0 < 2 ^ 64) → ((i : ℕ) → get_or store i 0 < 2 ^ 64)
-      → store' ≡ take (r.out * (z.w + 1)) made ++ (take ((z.n - r.at) * (z.w + 1)) (drop (r.at * (z.w + 1)) store) ++ replicate (length store - (r.out + (z.n - r.at)) * (z.w + 1)) 0)
-      → scratch' ≡ replicate (r.out * (z.w + 1)) 0 ++ drop (r.out * (z.w + 1)) made → Together z q store scratch (r.out + (z.n - r.at)) store' scratch'
-  unfolding padded
-  together_fits h f fs e c =
-      let few : r.out ≤ z.limit = omega arith in
-      let l : length q ≡ r.out + (z.n - r.at) = counted few in
-      let u : leb (length q) z.limit ≡ true = le-leb (length q) z.limit (omega arith) in
-      let tail_in : (z.n - r.at) * (z.w + 1) ≤ length (drop (r.at * (z.w + 1)) store) = simp length-drop (omega (arith, b.task.room, stride_parts r.at z.n z.w left_in)) in
-      let m : polynomial_words z.w (decoded z.w r.out made) ≡ take (r.out * (z.w + 1)) made = words_decoded z.w r.out made f (front_in few) in
-      let o : polynomial_words z.w (drop r.at (old_terms z store)) ≡ take ((z.n - r.at) * (z.w + 1)) (drop (r.at * (z.w + 1)) store) =
-      ap (polynomial_words z.w) (decoded_drop z.w r.at z.n store left_in) ∙ words_decoded z.w (z.n - r.at) (drop (r.at * (z.w + 1)) store) (λ i. rw (get_or-drop (r.at * (z.w + 1)) store i 0) (fs (r.at * (z.w + 1) + i))) tail_in in
-      let p : polynomial_words z.w q ≡ take (r.out * (z.w + 1)) made ++ take ((z.n - r.at) * (z.w + 1)) (drop (r.at * (z.w + 1)) store) =
-      ap (polynomial_words z.w) (sym (g.fits few)) ∙ polynomial_words_append z.w (decoded z.w r.out made) (drop r.at (old_terms z store)) ∙ rw (m, o) in
-      let k : length (polynomial_words z.w q) ≡ (r.out + (z.n - r.at)) * (z.w + 1) = length_polynomial_words z.w q ∙ rw l in
-      record {
-        counted = rw (u, l);
-        stored = rw (u, k, p, append_assoc (take (r.out * (z.w + 1)) made) (take ((z.n - r.at) * (z.w + 1)) (drop (r.at * (z.w + 1)) store)) (replicate (length store - (r.out + (z.n - r.at)) * (z.w + 1)) 0)) e;
-        kept = front_again (r.out * (z.w + 1)) (z.limit * (z.w + 1)) scratch made scratch' (mul-le-mul_right (z.w + 1) few) b.clean (t.few few) c;
-      }
+  module _ (store' scratch' : List ℕ) (h : r.out + (z.n - r.at) ≤ z.limit) (f : (i : ℕ) → get_or store' i 0 < 2 ^ 64)
+      (e : store' ≡ take (r.out * (z.w + 1)) made ++ (take ((z.n - r.at) * (z.w + 1)) (drop (r.at * (z.w + 1)) store) ++ replicate (length store - (r.out + (z.n - r.at)) * (z.w + 1)) 0)) where
+    -- their words
+    abbrev words : ℕ
+    words = (r.out + (z.n - r.at)) * (z.w + 1)
 
-  -- where both parts are more than the limit, so are all terms
-  pub more : (u : Bool) → ltb z.limit r.out ≡ u → z.limit < r.out + (z.n - r.at) → z.limit < length q
-  more true d h = g.full (ltb-true z.limit r.out d)
-  more false d h = rw (counted (ltb-false z.limit r.out d)) h
+    -- those of both parts are so many
+    parts_length : length (take (r.out * (z.w + 1)) made ++ take ((z.n - r.at) * (z.w + 1)) (drop (r.at * (z.w + 1)) store)) ≡ words
+    parts_length =
+        let tail_in : (z.n - r.at) * (z.w + 1) ≤ length (drop (r.at * (z.w + 1)) store) = simp length-drop (omega (arith, b.task.room, stride_parts r.at z.n z.w left_in)) in
+        simp length-append (omega (arith, length-take-le (r.out * (z.w + 1)) made front_in, length-take-le ((z.n - r.at) * (z.w + 1)) (drop (r.at * (z.w + 1)) store) tail_in, add-mul r.out (z.n - r.at) (z.w + 1)))
 
-  -- they do not fit: store and scratch are as they were
-  pub together_full : z.limit < r.out + (z.n - r.at) → store' ≡ store → scratch' ≡ take 0 made ++ (replicate (z.limit * (z.w + 1) - 0) 0 ++ drop (z.limit * (z.w + 1)) made)
-      → Together z q store scratch (z.limit + 1) store' scratch'
-  together_full h e c =
-      let u : leb (length q) z.limit ≡ false = lt-leb (length q) z.limit (more (ltb z.limit r.out) refl h) in
-      let k : drop (z.limit * (z.w + 1)) made ≡ drop (z.limit * (z.w + 1)) scratch = behind_limit z.w z.limit r.out scratch made (kept_behind z.w z.limit r.out scratch made t) in
-      record {
-        counted = rw u refl;
-        stored = rw u e;
-        kept = front_again (z.limit * (z.w + 1)) (z.limit * (z.w + 1)) scratch made scratch' (omega arith) b.clean k (rw (sub-zero (z.limit * (z.w + 1))) at c);
-      }
+    -- they stand in front of zeros
+    parted : store' ≡ (take (r.out * (z.w + 1)) made ++ take ((z.n - r.at) * (z.w + 1)) (drop (r.at * (z.w + 1)) store)) ++ replicate (length store - words) 0
+    parted = e ∙ sym (append_assoc (take (r.out * (z.w + 1)) made) (take ((z.n - r.at) * (z.w + 1)) (drop (r.at * (z.w + 1)) store)) (replicate (length store - words) 0))
+
+    -- the terms there are those of q
+    there : decoded z.w (r.out + (z.n - r.at)) store' ≡ q
+    there =
+        let m : drop (r.out * suc z.w) store' ≡ take ((z.n - r.at) * (z.w + 1)) (drop (r.at * (z.w + 1)) store) ++ replicate (length store - words) 0 =
+        rw (← add-one z.w) (ap (λ (x : List ℕ). drop (r.out * (z.w + 1)) x) e ∙ drop_at (take (r.out * (z.w + 1)) made) (take ((z.n - r.at) * (z.w + 1)) (drop (r.at * (z.w + 1)) store) ++ replicate (length store - words) 0) (r.out * (z.w + 1)) (length-take-le (r.out * (z.w + 1)) made front_in)) in
+        decoded_split z.w r.out (z.n - r.at) store'
+        ∙ ap (λ (x : Polynomial). x ++ decoded z.w (z.n - r.at) (drop (r.out * suc z.w) store')) (ap (decoded z.w r.out) e ∙ decoded_taken z.w r.out made _ front_in)
+        ∙ ap (λ (x : Polynomial). decoded z.w r.out made ++ x) (ap (decoded z.w (z.n - r.at)) m ∙ decoded_taken z.w (z.n - r.at) (drop (r.at * (z.w + 1)) store) _ (simp length-drop (omega (arith, b.task.room, stride_parts r.at z.n z.w left_in))) ∙ sym (decoded_drop z.w r.at z.n store left_in))
+        ∙ g.2
+
+    pub together_fits : scratch' ≡ replicate (r.out * (z.w + 1)) 0 ++ drop (r.out * (z.w + 1)) made → Together z q store scratch (Some (r.out + (z.n - r.at))) store' scratch'
+    unfolding padded
+    together_fits c =
+        let l : length q ≡ r.out + (z.n - r.at) = counted in
+        let u : leb (length q) z.limit ≡ true = le-leb (length q) z.limit (omega arith) in
+        let long : words ≤ length store' = rw (parted, length-append) (omega (arith, parts_length)) in
+        let p : polynomial_words z.w q ≡ take (r.out * (z.w + 1)) made ++ take ((z.n - r.at) * (z.w + 1)) (drop (r.at * (z.w + 1)) store) =
+        ap (polynomial_words z.w) (sym there) ∙ words_decoded z.w (r.out + (z.n - r.at)) store' f long ∙ rw parted (take_at _ _ words parts_length) in
+        let k : length (polynomial_words z.w q) ≡ words = length_polynomial_words z.w q ∙ rw l in
+        record {
+          counted = rw (u, l);
+          stored = rw (u, k, p) parted;
+          kept = front_again (r.out * (z.w + 1)) (z.limit * (z.w + 1)) scratch made scratch' (mul-le-mul_right (z.w + 1) g.0) b.clean t c;
+        }
+
+  -- they do not fit: what was written is cleared
+  pub together_full : (scratch' : List ℕ) → z.limit < r.out + (z.n - r.at) → scratch' ≡ take 0 made ++ (replicate (z.limit * (z.w + 1) - 0) 0 ++ drop (z.limit * (z.w + 1)) made)
+      → Together z q store scratch None store scratch'
+  together_full scratch' h c =
+      let k : drop (z.limit * (z.w + 1)) made ≡ drop (z.limit * (z.w + 1)) scratch = behind_limit z.w z.limit r.out scratch made g.0 t in
+      together_none z q store scratch scratch' b (omega (arith, counted)) (rw (sub-zero (z.limit * (z.w + 1)), k) at c)
 
 -- v does not occur: the step changes nothing of the terms
 absent_same : (w l v : ℕ) (r : Record) (limit held : ℕ) (store scratch : List ℕ) → Ready w l v r limit held store scratch → (end : ℕ) → Last v (decoded w held store) end → end ≡ 0
@@ -226,12 +235,12 @@ numbers_same w l v r limit held store scratch numbers h end o z =
 
 -- nor of the store
 pub stepped_same : (w l v : ℕ) (r : Record) (limit held : ℕ) (store scratch : List ℕ) → Ready w l v r limit held store scratch → (end : ℕ) → Last v (decoded w held store) end → end ≡ 0
-    → Stepped w limit (gather (2 ^ l) (all_replaced (2 ^ l) v r (decoded w held store))) store scratch held store scratch
+    → Stepped w limit (gather (2 ^ l) (all_replaced (2 ^ l) v r (decoded w held store))) store scratch (Some held) store scratch
 stepped_same w l v r limit held store scratch h end o z =
     let e = absent_same w l v r limit held store scratch h end o z in
     let t : leb (length (decoded w held store)) limit ≡ true = le-leb _ limit (omega (arith, length_decoded w held store, h.held_most)) in
     record {
-      counted = rw (e, t) (sym (length_decoded w held store));
+      counted = rw (e, t, length_decoded);
       stored = rw (e, t) h.kept;
       cleared = h.clean;
     }
@@ -259,14 +268,8 @@ held_low s v e b l = go (ltb v e) refl
 
 -- what the look for the words used asks, where some term holds v
 pub used_asks : (w l v : ℕ) (r : Record) (limit held end : ℕ) (store scratch : List ℕ) → Ready w l v r limit held store scratch → Last v (decoded w held store) end → (end ≡ 0 → ⊥)
-    → (held * (w + 1) ≤ length store) × (w ≤ 16) × (0 < held) × (0 < w) × Below (2 ^ (64 * w)) (decoded w held store)
-used_asks w l v r limit held end store scratch h o z = (
-  stride_le held limit w (length store) h.held_most h.store_room,
-  h.narrow,
-  omega (arith, o.high, z, length_decoded w held store),
-  omega (arith, h.v_in),
-  h.falls,
-)
+    → (0 < held) × (0 < w) × Below (2 ^ (64 * w)) (decoded w held store)
+used_asks w l v r limit held end store scratch h o z = (omega (arith, o.high, z, length_decoded w held store), omega (arith, h.v_in), h.falls)
 
 -- a record reads some variable, so a bound of all it reads is not 0
 some_below : (v : ℕ) (r : Record) → EveryVariable (λ u. u < v) r → 0 < v
@@ -276,13 +279,13 @@ some_below v (Cell byte x1 x2 x3) h = omega (arith, h.0)
 -- what the step of a record brought apart asks
 pub to_replace : (w l v : ℕ) (r : Record) (limit held end : ℕ) (store scratch : List ℕ) → Ready w l v r limit held store scratch → Last v (decoded w held store) end → (end ≡ 0 → ⊥)
     → (q : Variables) (row : List ℤ) → Apart r q (row_of row) → length row ≡ 8 → (k : ℕ) → Uses w (decoded w held store) k
-    → Prepared store held w (record { v = v; x = q.x; y = q.y; z = q.z; l = l; k = k }) r row end scratch limit
+    → Prepared store held w (record { v = v; over = q; l = l; k = k }) r row end scratch limit
 to_replace w l v r limit held end store scratch h o z q row a e k u =
     let low = a.low v (some_below v r h.low) h.low in
     record {
+      room = stride_le held limit w (length store) h.held_most h.store_room;
+      narrow = h.narrow;
       fit = record {
-        room = stride_le held limit w (length store) h.held_most h.store_room;
-        narrow = h.narrow;
         short = u.within;
         v_in = held_low (get_or (decoded w held store) (end - 1) (0, 0)).1 v (64 * k) (o.held (omega (arith, z))) (set_below (2 ^ (64 * k)) (decoded w held store) (end - 1) u.falls (omega (arith, o.high, z)));
         l_high = h.l_high;

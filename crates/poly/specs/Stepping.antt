@@ -1,5 +1,5 @@
 -- A step in lent words: what it asks, and what it leaves.
-use Rattle.std.specs.Prelude.{◌≡◌, Bool, cond, ◌&&◌, List, ℕ, ◌+◌, ◌-◌, ◌*◌, ◌^◌, ◌<◌, ◌≤◌, leb, ltb, ℤ, length, get_or, take, drop, replicate}
+use Rattle.std.specs.Prelude.{◌≡◌, Bool, cond, ◌&&◌, List, ℕ, ◌+◌, ◌-◌, ◌*◌, ◌^◌, ◌<◌, ◌≤◌, leb, ltb, ℤ, Option, None, Some, length, get_or, take, drop, replicate}
 use Rattle.rules.specs.Judging.{polynomial_words, padded}
 use Rattle.rules.specs.Netlist.{EveryVariable, byte_of}
 use Rattle.rules.specs.Polynomial.{Polynomial, Below, Coefficients}
@@ -13,33 +13,28 @@ use Rattle.weave.specs.Weaving.{Task, old_terms, new_terms}
 use Rattle.weave.specs.declared.weaving.Sizes.{Sizes}
 use Rattle.gates.specs.Apart.{Making, Apart}
 use Rattle.gates.specs.Rows.{row_of}
-use Rattle.gates.specs.declared.apart.Variables.{Variables}
 use Rattle.merge.specs.declared.streams.Gate.{Gate}
 
--- the variables that a gate is over
-abbrev pub variables_of : Gate → Variables
-variables_of g = record { x = g.x; y = g.y; z = g.z }
-
--- a polynomial of n terms is held, whose sets use k of their w words, and the row is what the gate's record is brought apart to, over
--- the gate's variables, which are below v
-pub record Fit (store : List ℕ) (n w : ℕ) (g : Gate) (r : Record) (row : List ℤ) : Type 0 where
-  pub room : n * (w + 1) ≤ length store
-  pub narrow : w ≤ 16
+-- the sets of the terms p use k of their w words, and the row is what the gate's record is brought apart to, over the gate's variables,
+-- which are below v
+pub record Fit (w : ℕ) (p : Polynomial) (g : Gate) (r : Record) (row : List ℤ) : Type 0 where
   pub short : g.k ≤ w
   pub v_in : g.v < 64 * g.k
   pub l_high : g.l ≤ 64
-  pub apart : Apart r (variables_of g) (row_of row)
+  pub apart : Apart r g.over (row_of row)
   pub eight : length row ≡ 8
-  pub x_low : g.x < g.v
-  pub y_low : g.y < g.v
-  pub z_low : g.z < g.v
-  pub falls : Below (2 ^ (64 * g.k)) (decoded w n store)
-  pub coefficients : Coefficients (2 ^ g.l) (decoded w n store)
+  pub x_low : g.over.x < g.v
+  pub y_low : g.over.y < g.v
+  pub z_low : g.over.z < g.v
+  pub falls : Below (2 ^ (64 * g.k)) p
+  pub coefficients : Coefficients (2 ^ g.l) p
 
--- and some term holds the gate's variable, but none from `end` on; there is room for `limit` terms in the store, and for four
--- times as many in scratch, with zeros in both wherever no term is
+-- a polynomial of n terms is held, and some term holds the gate's variable, but none from `end` on; there is room for `limit` terms in
+-- the store, and for four times as many in scratch, with zeros in both wherever no term is
 pub record Prepared (store : List ℕ) (n w : ℕ) (g : Gate) (r : Record) (row : List ℤ) (end : ℕ) (scratch : List ℕ) (limit : ℕ) : Type 0 where
-  pub fit : Fit store n w g r row
+  pub room : n * (w + 1) ≤ length store
+  pub narrow : w ≤ 16
+  pub fit : Fit w (decoded w n store) g r row
   pub few : n ≤ limit
   pub last : Last g.v (decoded w n store) end
   pub some : 0 < end
@@ -68,10 +63,10 @@ pub record Numbering (z : Sizes) (store scratch : List ℕ) (lent : ℕ) : Type 
 unfoldable pub in_place : Sizes → List ℕ → Bool
 in_place z store = leb z.made 16 && (leb (z.n - z.end + z.made) z.limit && ltb (num (words_at store 1 z.w)) (2 ^ (z.v + 1)))
 
--- both lists, gathered to q, are in the store: their number of terms, and their words; or limit + 1 and the store as it was. Scratch is
--- as it was.
-pub record Together (z : Sizes) (q : Polynomial) (store scratch : List ℕ) (r : ℕ) (store' scratch' : List ℕ) : Type 0 where
-  pub counted : r ≡ cond (leb (length q) z.limit) (length q) (z.limit + 1)
+-- both lists, gathered to q, are in the store: their number of terms, and their words; or there is no room, and the store is as it was.
+-- Scratch is as it was.
+pub record Together (z : Sizes) (q : Polynomial) (store scratch : List ℕ) (r : Option ℕ) (store' scratch' : List ℕ) : Type 0 where
+  pub counted : r ≡ cond (leb (length q) z.limit) (Some (length q)) None
   pub stored : store' ≡ cond (leb (length q) z.limit) (padded (length store) (polynomial_words z.w q)) store
   pub kept : scratch' ≡ scratch
 
@@ -102,9 +97,9 @@ pub record Each (v : ℕ) (r : Record) (p : Polynomial) (each : ℕ) : Type 0 wh
   pub some : (i : ℕ) → i < length p → bit (get_or p i (0, 0)).1 v ≡ 1 → Making r each
   pub none : Free v p 0 (length p) → each ≡ 0
 
--- what a step to the polynomial q leaves: where q has at most `limit` terms, their number, and the words of q in the store; else
--- limit + 1, and the store as it was. Scratch is zeros.
-pub record Stepped (w limit : ℕ) (q : Polynomial) (store scratch : List ℕ) (r : ℕ) (store' scratch' : List ℕ) : Type 0 where
-  pub counted : r ≡ cond (leb (length q) limit) (length q) (limit + 1)
+-- what a step to the polynomial q leaves: where q has at most `limit` terms, their number, and the words of q in the store; else there is
+-- no room, and the store is as it was. Scratch is zeros.
+pub record Stepped (w limit : ℕ) (q : Polynomial) (store scratch : List ℕ) (r : Option ℕ) (store' scratch' : List ℕ) : Type 0 where
+  pub counted : r ≡ cond (leb (length q) limit) (Some (length q)) None
   pub stored : store' ≡ cond (leb (length q) limit) (padded (length store) (polynomial_words w q)) store
   pub cleared : scratch' ≡ replicate (length scratch) 0

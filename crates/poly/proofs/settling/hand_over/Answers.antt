@@ -1,21 +1,26 @@
-use mathlib.Core.Path.{◌≡◌, refl, ◌∙◌}
-use Prim.Native.Nat.{◌-◌}
-use native.Mathlib.Omega.{arith}
-use Rattle.poly.proofs.Settled.{least_of, store_more, scratch_more}
+use Rattle.std.proofs.Common.{◌≡◌, ◌+◌, arith}
+use Rattle.poly.proofs.Settled.{store_more, scratch_more}
 use Rattle.poly.proofs.settling.hand_over.Goals as goal
-
-pub loop-done-init : goal.loop-done-init
-loop-done-init c = (omega arith, refl, refl, refl, refl)
 
 pub loop-done-preserved : goal.loop-done-preserved
 loop-done-preserved c =
     let a = c.args in
     let l = c.loop-done in
-    let n = c.least-n.result in
-    let u = least_of (c.args.end - c.loop-done.done) 512 c.least-n.result c.least-n.ensures in
-    (omega (arith, u.0), c.clear.auto.words ∙ l.invariant.1, c.copy.auto.target ∙ l.invariant.2, store_more l.done n a.scratch.now a.store.now l.store l.scratch c.copy.new.target (omega arith) l.invariant.3 l.invariant.4 c.copy.ensures, scratch_more l.done n a.scratch.now l.scratch c.clear.new.words l.invariant.4 c.clear.ensures)
+    let next : c.min-next.result ≡ l.done + 512 = omega arith in
+    record {
+      within = omega arith;
+      given = rw next at (store_more l.done c.min-next.result a.scratch.now a.store.now l.store l.scratch c.copy.new.target c.clear.new.words (omega arith) (omega arith) l.invariant.given l.invariant.left c.copy.ensures);
+      left = rw next at (scratch_more l.done c.min-next.result a.scratch.now a.store.now l.store l.scratch c.copy.new.target c.clear.new.words (omega arith) (omega arith) l.invariant.given l.invariant.left c.clear.ensures);
+    }
 
 pub returns : goal.returns
 returns c =
     let e : c.loop-done.done ≡ c.args.end = omega arith in
-    (rw e at c.loop-done.invariant.3, rw e at c.loop-done.invariant.4)
+    (rw e at c.loop-done.invariant.given, rw e at c.loop-done.invariant.left)
+
+pub returns-2 : goal.returns-2
+returns-2 c =
+    let a = c.args in
+    let l = c.loop-done in
+    let next : c.min-next.result ≡ a.end = omega arith in
+    (rw next at (store_more l.done c.min-next.result a.scratch.now a.store.now l.store l.scratch c.copy.new.target c.clear.new.words (omega arith) (omega arith) l.invariant.given l.invariant.left c.copy.ensures), rw next at (scratch_more l.done c.min-next.result a.scratch.now a.store.now l.store l.scratch c.copy.new.target c.clear.new.words (omega arith) (omega arith) l.invariant.given l.invariant.left c.clear.ensures))

@@ -1,7 +1,7 @@
 -- In place, or by way of scratch.
-use mathlib.Core.Path.{sym, ◌∙◌}
-use native.Mathlib.Omega.{arith}
-use Rattle.poly.proofs.Placed.{placed, first_low, to_splice, together_placed, to_count, numbers_placed}
+use Rattle.std.proofs.Common.{sym, ◌∙◌, arith}
+use Rattle.poly.proofs.Numbered.{front_counts}
+use Rattle.poly.proofs.Placed.{placed, first_low, to_splice, together_placed, numbers_placed}
 use Rattle.poly.proofs.settling.put_together.Goals as goal
 
 pub goes_in_place-requires : goal.goes_in_place-requires
@@ -14,7 +14,8 @@ pub mark_all-requires : goal.mark_all-requires
 mark_all-requires c =
     let a = c.args in
     let p = c.requires in
-    to_count a.z a.store.now a.scratch.now p.0 (placed a.z a.store.now (sym c.goes_in_place.ensures ∙ c.if-goes_in_place.true)) p.1
+    let front = front_counts a.z a.store.now a.scratch.now p.0 p.1 a.z.end p.0.task.end_in in
+    record { short = p.0.task.short; some = p.1.some; falls = front.0; numbered = front.1 }
 
 pub splice_all-requires : goal.splice_all-requires
 splice_all-requires c =

@@ -1,28 +1,17 @@
 -- The tables are those of the gate, so its streams gather to what becomes of the terms that hold it.
-use mathlib.Core.Path.{◌≡◌, refl, sym, ◌∙◌}
-use mathlib.Core.Bool.{Bool, true, false, cond}
-use mathlib.Core.Logic.{inl, inr}
-use mathlib.Core.List.{List, ◌++◌}
-use Prim.Native.Nat.{ℕ, ◌*◌, ◌≤◌}
-use native.Mathlib.Nat.{mul-le-mul_right}
-use native.Mathlib.Omega.{arith}
-use lib.Dec.{eqb}
-use lib.IntN.{ℤ, pos}
-use lib.ListN.{length, take, drop, replicate, length-append, length-drop}
-use lib.Seq.{length-take-le}
-use Rattle.words.specs.Stored.{decoded}
+use Rattle.std.proofs.Common.{◌≡◌, ℕ, ◌*◌, ◌≤◌, Bool, true, false, cond, eqb, inl, inr, List, ◌++◌, length, take, drop, replicate, ℤ, pos, refl, sym, ◌∙◌, mul-le-mul_right, arith, length-append, length-drop, length-take-le}
 use Rattle.gates.specs.Rows.{row_of, Tabled, Rows}
 use Rattle.gates.proofs.Tables.{mask_none}
 use Rattle.merge.specs.Streams.{streams_of}
 use Rattle.merge.specs.declared.streams.Gate.{Gate}
 use Rattle.merge.proofs.Flow.{streams_few}
-use Rattle.poly.proofs.Tables.{filled, held, masks_short, lows, gathered, falls}
+use Rattle.poly.proofs.Tables.{filled, held, masks_short, lows, same}
 use Rattle.poly.proofs.step.replacements.Goals as goal
 
 -- a row of eight multipliers is lent for each stream
 rows_of : (g : Gate) → Rows (streams_of g * 8)
 unfolding streams_of
-rows_of g = go (eqb g.z 0)
+rows_of g = go (eqb g.over.z 0)
   where
     go : (b : Bool) → Rows (cond b 4 8 * 8)
     go true = inl refl
@@ -48,59 +37,61 @@ module _ (s : ℕ) (g : Gate) (e : s ≡ streams_of g) where
 
 pub slice_bounds-multiplier_table-end : goal.slice_bounds-multiplier_table-end
 slice_bounds-multiplier_table-end c =
-    let s = c.streams_of-streams in
+    let s = c.streams_of-count in
     sym (lent s.result c.args.g s.ensures)
 
 pub multiplier_table-requires : goal.multiplier_table-requires
 multiplier_table-requires c =
     let p = c.requires.0 in
-    let s = c.streams_of-streams in
+    let s = c.streams_of-count in
     (p.eight, p.apart.within, rw (lent s.result c.args.g s.ensures, s.ensures) (rows_of _))
 
 pub mask_table-requires : goal.mask_table-requires
 mask_table-requires c =
+    let t = c.args.terms.now in
     let p = c.requires.0 in
-    let l = few c.streams_of-streams.result c.args.g c.streams_of-streams.ensures in (
+    let l = few c.streams_of-count.result c.args.g c.streams_of-count.ensures in (
       l,
-      omega (arith, mul-le-mul_right c.args.w l, p.narrow),
-      p.narrow,
+      omega (arith, mul-le-mul_right t.width l, t.narrow),
+      t.narrow,
       omega (arith, p.v_in, p.short),
       omega (arith, p.x_low, p.v_in, p.short),
       omega (arith, p.y_low, p.v_in, p.short),
       omega (arith, p.z_low, p.v_in, p.short),
-      λ j d. mask_none c.args.w 128 j,
+      λ j d. mask_none t.width 128 j,
     )
+
+pub invariant_of-streams : goal.invariant_of-streams
+invariant_of-streams c =
+    let a = c.args in
+    let t = a.terms.now in
+    let s = c.streams_of-count in
+    let m = c.mask_table in
+    let n = c.multiplier_table in
+    let table = n.new.table ++ drop (s.result * 8) (replicate 64 (pos 0)) in
+    let z = size s.result a.g s.ensures n.new.table n.auto.table in
+    let filled = tabled s.result a.g s.ensures n.new.table n.auto.table a.row.now n.ensures in
+    let masked = rw s.ensures at m.ensures.0 in
+    record { held = held t a.g a.r a.row.now c.requires.0 table m.new.masks z filled masked; masked = masks_short t a.g a.r a.row.now c.requires.0 table m.new.masks z filled masked (omega (arith, mul-le-mul_right t.width (streams_few a.g).1, t.narrow, m.auto.masks)) }
 
 pub merge-requires : goal.merge-requires
 merge-requires c =
     let a = c.args in
-    let p = c.requires in
-    let s = c.streams_of-streams in
-    let t = c.multiplier_table in
-    let m = c.mask_table in
-    let table = t.new.table ++ drop (s.result * 8) (replicate 64 (pos 0)) in
-    let z = size s.result a.g s.ensures t.new.table t.auto.table in
-    let filled = tabled s.result a.g s.ensures t.new.table t.auto.table a.row.now t.ensures in
-    let masked = rw s.ensures at m.ensures.0 in (
-      held a.store.now a.n a.w a.g a.r a.row.now p.0 table m.new.masks z filled masked,
-      masks_short a.store.now a.n a.w a.g a.r a.row.now p.0 table m.new.masks z filled masked (omega (arith, mul-le-mul_right a.w (streams_few a.g).1, p.0.narrow, m.auto.masks)),
-      p.1,
-      lows a.store.now a.n a.w a.g a.r a.row.now p.0 table m.new.masks z filled masked,
-    )
+    let t = a.terms.now in
+    let s = c.streams_of-count in
+    let n = c.multiplier_table in
+    let table = n.new.table ++ drop (s.result * 8) (replicate 64 (pos 0)) in
+    let z = size s.result a.g s.ensures n.new.table n.auto.table in
+    let filled = tabled s.result a.g s.ensures n.new.table n.auto.table a.row.now n.ensures in
+    (c.requires.1, lows t a.g a.r a.row.now c.requires.0 table c.mask_table.new.masks z filled (rw s.ensures at c.mask_table.ensures.0))
 
 pub returns : goal.returns
 returns c =
     let a = c.args in
-    let p = c.requires in
-    let s = c.streams_of-streams in
-    let t = c.multiplier_table in
-    let table = t.new.table ++ drop (s.result * 8) (replicate 64 (pos 0)) in
-    let z = size s.result a.g s.ensures t.new.table t.auto.table in
-    let filled = tabled s.result a.g s.ensures t.new.table t.auto.table a.row.now t.ensures in
-    let masked = rw s.ensures at c.mask_table.ensures.0 in
-    let m = c.merge in
-    let out = decoded a.w m.result m.new.scratch in (
-      gathered a.store.now a.n a.w a.g a.r a.row.now p.0 table c.mask_table.new.masks z filled masked a.limit m.result out m.ensures.0,
-      falls a.store.now a.n a.w a.g a.r a.row.now p.0 table c.mask_table.new.masks z filled masked a.limit m.result out m.ensures.0,
-      m.ensures.1,
-    )
+    let t = a.terms.now in
+    let s = c.streams_of-count in
+    let n = c.multiplier_table in
+    let table = n.new.table ++ drop (s.result * 8) (replicate 64 (pos 0)) in
+    let z = size s.result a.g s.ensures n.new.table n.auto.table in
+    let filled = tabled s.result a.g s.ensures n.new.table n.auto.table a.row.now n.ensures in
+    rw (same t a.g a.r a.row.now c.requires.0 table c.mask_table.new.masks z filled (rw s.ensures at c.mask_table.ensures.0)) at c.merge.ensures

@@ -2,22 +2,22 @@
 use mathlib.Core.Path.{◌≡◌, refl, ap, sym, ◌∙◌}
 use mathlib.Core.Bool.{Bool, true, false}
 use mathlib.Core.List.{List, [], ◌∷◌, ◌++◌, append_assoc, append-nil}
-use Prim.Native.Nat.{ℕ, zero, suc, ◌+◌, ◌-◌, ◌*◌, ◌/◌, ◌%◌, ◌^◌, ◌<◌, ◌≤◌, min}
-use native.Mathlib.Nat.{add-zero, zero-add, suc-add, add-mul, one-mul, zero-div, div-eq_of_lt, mod-eq_of_lt, mul-mod_left}
+use Prim.Native.Nat.{ℕ, zero, suc, ◌+◌, ◌-◌, ◌*◌, ◌/◌, ◌%◌, ◌^◌, ◌<◌, ◌≤◌}
+use native.Mathlib.Nat.{add-zero, zero-add, add-mul, one-mul, zero-div, div-eq_of_lt, mod-eq_of_lt, mul-mod_left}
 use native.Mathlib.Omega.{arith}
 use lib.Bits.{bit_xor, xor_zero_r, xor_comm, xor_shifted, xor_shr, xor_mod}
 use lib.Dec.{eqb, ltb}
 use lib.ListN.{length, get_or, take, drop, set, replicate, length-append, length-set, length-replicate, length-drop, get_or-replicate, replicate-append-replicate, get_or-append}
 use lib.Pow.{pow-add, pow-lt, pow_pos, shl-shr}
+use Rattle.std.proofs.lemmas.List.{set-append_right}
 use lib.Seq.{ext_get_or, get_or-append-add, get_or-set_same, get_or-set_other, set-append_left, set_at, append_snoc, take-add, drop-drop, length-take-le}
 use borrow.Author.Tests.{eqb-true, eqb-false, ltb-true, ltb-false}
 use Rattle.rules.specs.Judging.{term_words, polynomial_words, padded}
 use Rattle.rules.specs.Polynomial.{Term, Polynomial, keep}
 use Rattle.rules.proofs.Indices.{length_listed, get_or_listed}
 use Rattle.rules.proofs.Gathered.{keep_some}
-use Rattle.words.proofs.Stored.{stride_in}
 use Rattle.words.proofs.Encoded.{length_polynomial_words, polynomial_words_append}
-use Rattle.start.specs.Start.{single, word, set_words, Marks, Writes, Going}
+use Rattle.start.specs.Start.{single, word, set_words, Marks, Writes, Going, Full}
 use Rattle.start.proofs.Outputs.{single_up, single_lt}
 
 -- the word of v alone
@@ -82,11 +82,6 @@ turned_words w v s x h l e =
         let z : j ≡ v / 64 → ⊥ = eqb-false j (v / 64) q in
         rw (get_or-set_other (set_words w s) (v / 64) j x 0 z, get_or_set_words w s j i, word_elsewhere v j z) (sym (xor_zero_r _))
 
--- a store behind the first words
-set_behind : (before behind : List ℕ) (k x : ℕ) → set (before ++ behind) (length before + k) x ≡ before ++ set behind k x
-set_behind [] behind k x = rw zero-add
-set_behind (b ∷ before) behind k x = rw (suc-add (length before) k, set_behind before behind k x)
-
 -- v turned in the set that stands behind the first words
 pub marked : (store store' : List ℕ) (at w v : ℕ) → v < 64 * w → 0 < v
     → store' ≡ set store (at + v / 64) (bit_xor (get_or store (at + v / 64) 0) (2 ^ (v % 64))) → Marks at w v store store'
@@ -95,7 +90,8 @@ marked store store' at w v h p g before after s e l f =
     let here : get_or store (at + v / 64) 0 ≡ get_or (set_words w s) (v / 64) 0 =
     rw (f, ← e, get_or-append-add before (set_words w s ++ after) (v / 64) 0) (get_or-append (set_words w s) after 0 (v / 64) place) in
     let x = bit_xor (get_or (set_words w s) (v / 64) 0) (2 ^ (v % 64)) in
-    g ∙ rw (here, f, ← e, set_behind before (set_words w s ++ after) (v / 64) x, set-append_left (set_words w s) after (v / 64) x place, turned_words w v s x h (rw (single_up v p) at (l p)) refl, single_up v p)
+    let behind : at + v / 64 - at ≡ v / 64 = omega arith in
+    g ∙ rw (here, f, set-append_right before (set_words w s ++ after) at (at + v / 64) x e (omega arith), behind, set-append_left (set_words w s) after (v / 64) x place, turned_words w v s x h (rw (single_up v p) at (l p)) refl, single_up v p)
 
 -- variable 0 adds nothing to a set
 pub unmarked : (store : List ℕ) (at w v : ℕ) → v ≤ 0 → Marks at w v store store
@@ -128,63 +124,52 @@ zeros_split w more h =
     let e : more ≡ suc (w + (more - (w + 1))) = omega arith in
     ap (λ (k : ℕ). replicate k 0) e ∙ rw (← zero_words w, replicate-append-replicate)
 
-module _ (w limit : ℕ) (p rest : Polynomial) (store : List ℕ) (out c s : ℕ) (g : Going w limit p (keep c s rest) store out) where
+module _ (w : ℕ) (p rest : Polynomial) (store : List ℕ) (count c s : ℕ) (g : Going w p (keep c s rest) store count) where
   -- a coefficient 0 is passed over
-  pub going_none : c ≡ 0 → Going w limit p rest store out
+  pub going_none : c ≡ 0 → Going w p rest store count
   unfolding keep
-  going_none e = record { few = g.few; held = g.held; left = λ l. g.left l ∙ rw e; words = g.words }
+  going_none e = record { held = g.held; left = g.left ∙ rw e; words = g.words }
 
-  -- no room for one more term
-  pub going_full : (c ≡ 0 → ⊥) → limit ≤ out → Going w limit p rest store (limit + 1)
-  going_full n h =
-      let now : min out limit ≡ limit = omega arith in
-      let then : min (limit + 1) limit ≡ limit = omega arith in
-      record {
-        few = omega arith;
-        held = more (ltb limit out) refl;
-        left = λ l. absurd (omega arith);
-        words = g.words ∙ rw (now, then);
-      }
-    where
-      more : (t : Bool) → ltb limit out ≡ t → limit + 1 ≤ length p
-      more true e = omega (arith, g.held, ltb-true limit out e)
-      more false e =
-          omega (arith, (next_term p rest (c, s) out (g.left (ltb-false limit out e) ∙ keep_some c s rest (omega (arith, n)))).2)
+  module _ (n : c ≡ 0 → ⊥) where
+    -- one more term of p is to come
+    going_next : (take (count + 1) p ≡ take count p ++ ((c, s) ∷ [])) × (drop (count + 1) p ≡ rest) × (count + 1 ≤ length p)
+    going_next = next_term p rest (c, s) count (g.left ∙ keep_some c s rest (omega (arith, n)))
 
-  module _ (n : c ≡ 0 → ⊥) (h : out < limit) (room : limit * (w + 1) ≤ length store) where
-    -- the words written so far
-    going_length : length (polynomial_words w (take out p)) ≡ out * (w + 1)
-    going_length = length_polynomial_words w (take out p) ∙ ap (λ (k : ℕ). k * (w + 1)) (length-take-le out p g.held)
+    -- but there is no room for it
+    pub going_full : Full w count p store
+    going_full = record { more = omega (arith, going_next.2); words = g.words }
 
-    -- the words of one term more
-    one_more : (out + 1) * (w + 1) ≡ out * (w + 1) + (w + 1)
-    one_more = omega (arith, add-mul out 1 (w + 1))
+    module _ (room : count * (w + 1) + (w + 1) ≤ length store) where
+      -- the words written so far
+      going_length : length (polynomial_words w (take count p)) ≡ count * (w + 1)
+      going_length = length_polynomial_words w (take count p) ∙ ap (λ (k : ℕ). k * (w + 1)) (length-take-le count p g.held)
 
-    -- the zeros that the next term is written over
-    going_zeros : store ≡ polynomial_words w (take out p) ++ (0 ∷ (set_words w 0 ++ replicate (length store - (out + 1) * (w + 1)) 0))
-    unfolding padded
-    going_zeros =
-        let now : min out limit ≡ out = omega arith in
-        let more : length store - out * (w + 1) - (w + 1) ≡ length store - (out + 1) * (w + 1) = omega (arith, one_more) in
-        (rw now at g.words)
-        ∙ ap (λ (k : ℕ). polynomial_words w (take out p) ++ replicate (length store - k) 0) going_length
-        ∙ rw (zeros_split w (length store - out * (w + 1)) (omega (arith, stride_in out limit w (length store) h room)), more)
+      -- the words of one term more
+      one_more : (count + 1) * (w + 1) ≡ count * (w + 1) + (w + 1)
+      one_more = omega (arith, add-mul count 1 (w + 1))
 
-    -- the next term written over them
-    pub going_more : (store' : List ℕ) → length store' ≡ length store
-        → Writes (out * (w + 1)) w c s store store'
-        → Going w limit p rest store' (out + 1)
-    unfolding padded polynomial_words term_words set_words
-    going_more store' e f =
-        let next = next_term p rest (c, s) out (g.left (omega arith) ∙ keep_some c s rest (omega (arith, n))) in
-        let then : min (out + 1) limit ≡ out + 1 = omega arith in
-        let all : polynomial_words w (take (out + 1) p) ≡ polynomial_words w (take out p) ++ (term_words w (c, s) ++ []) =
-        ap (polynomial_words w) next.0 ∙ polynomial_words_append w (take out p) ((c, s) ∷ []) in
-        let long : length (polynomial_words w (take (out + 1) p)) ≡ (out + 1) * (w + 1) =
-        length_polynomial_words w (take (out + 1) p) ∙ ap (λ (k : ℕ). k * (w + 1)) (length-take-le (out + 1) p next.2) in
-        record {
-          few = omega arith;
-          held = next.2;
-          left = λ l. next.1;
-          words = f (polynomial_words w (take out p)) (replicate (length store - (out + 1) * (w + 1)) 0) going_length going_zeros ∙ rw (then, long, e, all, append-nil, append_assoc);
-        }
+      -- the zeros that the next term is written over
+      going_zeros : store ≡ polynomial_words w (take count p) ++ (0 ∷ (set_words w 0 ++ replicate (length store - (count + 1) * (w + 1)) 0))
+      unfolding padded
+      going_zeros =
+          let more : length store - count * (w + 1) - (w + 1) ≡ length store - (count + 1) * (w + 1) = omega (arith, one_more) in
+          g.words
+          ∙ ap (λ (k : ℕ). polynomial_words w (take count p) ++ replicate (length store - k) 0) going_length
+          ∙ rw (zeros_split w (length store - count * (w + 1)) (omega arith), more)
+
+      -- the next term written over them
+      pub going_more : (store' : List ℕ) → length store' ≡ length store
+          → Writes (count * (w + 1)) w c s store store'
+          → Going w p rest store' (count + 1)
+      unfolding padded polynomial_words term_words set_words
+      going_more store' e f =
+          let next = going_next in
+          let all : polynomial_words w (take (count + 1) p) ≡ polynomial_words w (take count p) ++ (term_words w (c, s) ++ []) =
+          ap (polynomial_words w) next.0 ∙ polynomial_words_append w (take count p) ((c, s) ∷ []) in
+          let long : length (polynomial_words w (take (count + 1) p)) ≡ (count + 1) * (w + 1) =
+          length_polynomial_words w (take (count + 1) p) ∙ ap (λ (k : ℕ). k * (w + 1)) (length-take-le (count + 1) p next.2) in
+          record {
+            held = next.2;
+            left = next.1;
+            words = f (polynomial_words w (take count p)) (replicate (length store - (count + 1) * (w + 1)) 0) going_length going_zeros ∙ rw (long, e, all, append-nil, append_assoc);
+          }

@@ -1,2 +1,4 @@
 -- What the start polynomial is in lent words.
 pub mod Start
+pub mod Writing
+pub mod Weighing

@@ -1,5 +1,5 @@
 -- The start polynomial in the order in which it is written: sets fall, and a term with coefficient 0 is left out.
-use Rattle.std.specs.Prelude.{◌≡◌, true, false, cond, List, [], ◌∷◌, ◌++◌, ℕ, zero, suc, ◌+◌, ◌-◌, ◌*◌, ◌/◌, ◌%◌, ◌^◌, ◌<◌, ◌≤◌, min, leb, length, get_or, take, drop, replicate}
+use Rattle.std.specs.Prelude.{◌≡◌, true, false, cond, List, [], ◌∷◌, ◌++◌, ℕ, zero, suc, ◌+◌, ◌-◌, ◌*◌, ◌/◌, ◌%◌, ◌^◌, ◌<◌, ◌≤◌, leb, length, get_or, take, drop, replicate, Option, Some, None}
 use Rattle.rules.specs.Each.{joined, listed}
 use Rattle.rules.specs.Judging.{misfits, term_width, polynomial_words, padded}
 use Rattle.rules.specs.Netlist.{counts_right, needed, output, table_sound}
@@ -81,17 +81,17 @@ Writes at w c s store store' =
     (before after : List ℕ) → length before ≡ at
     → store ≡ before ++ (0 ∷ (set_words w 0 ++ after)) → store' ≡ before ++ (c ∷ (set_words w s ++ after))
 
--- on the way to p: so many of its first terms are counted, the rest is still to come; one more than the limit says that p has
--- more. The store has the terms counted, up to the limit, and then zeros
-pub record Going (w limit : ℕ) (p rest : Polynomial) (store : List ℕ) (out : ℕ) : Type 0 where
-  pub few : out ≤ limit + 1
-  pub held : out ≤ length p
-  pub left : out ≤ limit → drop out p ≡ rest
-  pub words : store ≡ padded (length store) (polynomial_words w (take (min out limit) p))
+-- on the way to p: so many of its first terms are counted, and the rest is still to come. The store has the terms counted, and then
+-- zeros
+pub record Going (w : ℕ) (p rest : Polynomial) (store : List ℕ) (count : ℕ) : Type 0 where
+  pub held : count ≤ length p
+  pub left : drop count p ≡ rest
+  pub words : store ≡ padded (length store) (polynomial_words w (take count p))
 
--- whatever polynomial is on its way, and has `then` still to come, has `now` to come afterwards
-abbrev pub Leads : ℕ → ℕ → Polynomial → Polynomial → List ℕ → ℕ → List ℕ → ℕ → Type 0
-Leads w limit then now store out store' out' = (p : Polynomial) → Going w limit p then store out → Going w limit p now store' out'
+-- p has more terms than the limit: the store has so many of them, and then zeros
+pub record Full (w limit : ℕ) (p : Polynomial) (store : List ℕ) : Type 0 where
+  pub more : limit < length p
+  pub words : store ≡ padded (length store) (polynomial_words w (take limit p))
 
 -- what is known when the start polynomial is asked for: sound counts and table, a block that fits its kind, room for the limit, and a
 -- store of zeros
@@ -103,16 +103,16 @@ pub record Asked (c : Counts) (table : List ℕ) (kind limit : ℕ) (store : Lis
   pub room : limit * term_width c ≤ length store
   pub zeros : store ≡ replicate (length store) 0
 
--- the number of terms, or one more than the limit where there are more
-unfoldable pub counted : ℕ → Polynomial → ℕ
-counted limit p = cond (leb (length p) limit) (length p) (limit + 1)
+-- the number of terms, or none where there are more than the limit
+unfoldable pub counted : ℕ → Polynomial → Option ℕ
+counted limit p = cond (leb (length p) limit) (Some (length p)) None
 
 -- the polynomial, or none where it has more terms than the limit
 unfoldable pub within : ℕ → Polynomial → Polynomial
 within limit p = cond (leb (length p) limit) p []
 
--- the permitted outcome of writing p to a store of that many words: its terms counted and written, with zeros behind them; one
--- more than the limit, and zeros, where it has more terms
-pub record Started (p : Polynomial) (w limit lent r : ℕ) (store : List ℕ) : Type 0 where
+-- the permitted outcome of writing p to a store of that many words: its terms counted and written, with zeros behind them; none, and
+-- zeros, where it has more than the limit
+pub record Started (p : Polynomial) (w limit lent : ℕ) (r : Option ℕ) (store : List ℕ) : Type 0 where
   pub count : r ≡ counted limit p
   pub words : store ≡ padded lent (polynomial_words w (within limit p))

@@ -9,17 +9,19 @@ use native.Mathlib.Omega.{arith}
 use lib.Dec.{ltb}
 use lib.ListN.{length, get_or, take}
 use lib.Seq.{take-suc}
-use borrow.Author.Tests.{le-ltb, ltb-false}
+use borrow.Author.Tests.{le-ltb, ltb-false, not-false}
+use Rattle.rules.specs.Values.{evaluate_checks}
 use Rattle.rules.proofs.Indices.{neither}
 use Rattle.rules.specs.Each.{every}
 use Rattle.rules.specs.Limits.{least_terms, most_terms, least_variables, most_variables, variables_wrong, terms_wrong, steps_wrong, making, Makes}
 use Rattle.rules.specs.Judging.{kind_wrong, most_made, judge_checks}
 use Rattle.rules.specs.Netlist.{counts_right, counts_wrong, table_short, table_unsound}
-use Rattle.rules.specs.Says.{answers, refuses, first, refuse_or, made_says}
+use Rattle.rules.specs.Says.{answers, refuses, first, refuse_or, refusal_number}
+use Rattle.std.specs.Prelude.{Result, Ok, Err}
 use Rattle.rules.specs.declared.counts.Counts.{Counts}
 use Rattle.rules.specs.declared.limits.Limits.{Limits}
-use Rattle.rules.specs.declared.limits.Made.{Made}
-use Rattle.rules.specs.declared.limits.Made.TheVariants.{Within, Refused as RefusedMade}
+use Rattle.rules.specs.declared.refusals.Refusal.{Refusal}
+use Rattle.rules.specs.declared.refusals.Refusal.TheVariants.{Header, CountOutside, ShortTable, InputLine, OutputLine, GateLine, BytesBehind, UnsoundTable, WrongKind, TermLimit, WrongOrder, ShortBuffer, DeskInput}
 use Rattle.rules.specs.declared.records.RecordKind.{RecordKind}
 use Rattle.rules.specs.declared.records.RecordKind.TheVariants.{Gates, Cells}
 use Rattle.checks.specs.Checking.{block_checks, run_checks}
@@ -65,22 +67,38 @@ variables_right c h =
     let r = right_counts c h in
     rw (le-ltb c.m least_variables (omega (arith, r.inputs, r.variables)), le-ltb most_variables c.m r.most)
 
+-- a refusal's number is not 0
+pub refusal_some : (r : Refusal) → refusal_number r ≡ 0 → ⊥
+refusal_some Header e = omega arith
+refusal_some CountOutside e = omega arith
+refusal_some ShortTable e = omega arith
+refusal_some InputLine e = omega arith
+refusal_some OutputLine e = omega arith
+refusal_some GateLine e = omega arith
+refusal_some BytesBehind e = omega arith
+refusal_some UnsoundTable e = omega arith
+refusal_some WrongKind e = omega arith
+refusal_some TermLimit e = omega arith
+refusal_some WrongOrder e = omega arith
+refusal_some ShortBuffer e = omega arith
+refusal_some DeskInput e = omega arith
+
 -- the maker's refusal is the first of the checks of limit and steps, whatever else is asked of the order and later
-pub made_refused : {t m s number : ℕ} {r : Made} (x : Bool) (later : ℕ) → variables_wrong m ≡ false → r ≡ RefusedMade number → Makes t m s r
-    → number ≡ cond (terms_wrong t) 10 (cond (steps_wrong s || x) 11 later)
-unfolding making first refuse_or made_says
-made_refused {t} {m} {s} {number} x later v e h = go (terms_wrong t) (steps_wrong s) (rw (e, v) at h.said)
+pub made_refused : {t m s : ℕ} {refusal : Refusal} {r : Result Limits Refusal} (x : Bool) (later : ℕ) → variables_wrong m ≡ false → r ≡ Err refusal → Makes t m s r
+    → refusal_number refusal ≡ cond (terms_wrong t) 10 (cond (steps_wrong s || x) 11 later)
+unfolding making first refuse_or
+made_refused {t} {m} {s} {refusal} x later v e h = go (terms_wrong t) (steps_wrong s) (rw (e, v) at h.said)
   where
-    go : (a b : Bool) → refuses number ≡ refuse_or (cond a 10 (cond b 11 0)) (answers 0 (t ∷ m ∷ s ∷ []))
-        → number ≡ cond a 10 (cond (b || x) 11 later)
+    go : (a b : Bool) → refuses (refusal_number refusal) ≡ refuse_or (cond a 10 (cond b 11 0)) (answers 0 (t ∷ m ∷ s ∷ []))
+        → refusal_number refusal ≡ cond a 10 (cond (b || x) 11 later)
     go true b k = cc
     go false true k = cc
     go false false k = let z : ◌≡◌ {A = ℕ} 0 1 = cc in absurd (omega arith)
 
 -- limits that the maker gives are those that it was asked for, and within their bounds
-pub made_within : {t m s : ℕ} {x : Limits} {r : Made} → variables_wrong m ≡ false → r ≡ Within x → Makes t m s r
+pub made_within : {t m s : ℕ} {x : Limits} {r : Result Limits Refusal} → variables_wrong m ≡ false → r ≡ Ok x → Makes t m s r
     → (terms_wrong t ≡ false) × (steps_wrong s ≡ false) × (x.terms ≡ t) × (x.steps ≡ s)
-unfolding making first refuse_or made_says
+unfolding making first refuse_or
 made_within {t} {m} {s} {x} v e h = go (terms_wrong t) (steps_wrong s) (rw (e, v) at h.said)
   where
     go : (a b : Bool) → answers 0 (x.terms ∷ x.variables ∷ x.steps ∷ []) ≡ refuse_or (cond a 10 (cond b 11 0)) (answers 0 (t ∷ m ∷ s ∷ []))
@@ -93,6 +111,24 @@ made_within {t} {m} {s} {x} v e h = go (terms_wrong t) (steps_wrong s) (rw (e, v
 pub limit_small : (t : ℕ) → terms_wrong t ≡ false → t ≤ most_terms
 unfolding terms_wrong
 limit_small t h = ltb-false most_terms t (neither (ltb t least_terms) (ltb most_terms t) h).1
+
+-- the first three checks, and what comes later
+abbrev trio : Bool → Bool → Bool → ℕ → ℕ
+trio a b c later = cond a 2 (cond b 3 (cond c 8 later))
+
+-- where one of them holds, the later ones are not asked
+trio_some : (a b c : Bool) (later : ℕ) → (trio a b c 0 ≡ 0 → ⊥) → trio a b c 0 ≡ trio a b c later
+trio_some true b c later h = refl
+trio_some false true c later h = refl
+trio_some false false true later h = refl
+trio_some false false false later h = absurd (h refl)
+
+-- where none does, the later ones decide
+trio_none : (a b c : Bool) (later : ℕ) → 0 ≡ trio a b c 0 → (a ≡ false) × (later ≡ trio a b c later)
+trio_none true b c later h = absurd (omega arith)
+trio_none false true c later h = absurd (omega arith)
+trio_none false false true later h = absurd (omega arith)
+trio_none false false false later h = (refl, refl)
 
 -- the checks of the block, and what comes later
 abbrev row : Bool → Bool → Bool → Bool → ℕ → ℕ
@@ -115,6 +151,21 @@ row_later false false false true later h = absurd (omega arith)
 row_later false false false false later h = (refl, refl, refl, refl, h)
 
 module _ (c : Counts) (table : List ℕ) (kind : ℕ) where
+  -- where the block is not sound, its kind is not asked
+  pub unsound_first : (first (evaluate_checks c table) ≡ 0 → ⊥) → first (evaluate_checks c table) ≡ first (block_checks c table kind)
+  unfolding evaluate_checks block_checks first
+  unsound_first h = trio_some (counts_wrong c) (table_short c (length table)) (table_unsound c table) _ h
+
+  -- a block that is made has right counts
+  pub made_sound : 0 ≡ first (evaluate_checks c table) → counts_right c ≡ true
+  unfolding evaluate_checks first counts_wrong
+  made_sound h = not-false (counts_right c) (trio_none (counts_wrong c) (table_short c (length table)) (table_unsound c table) 0 h).0
+
+  -- and its kind decides
+  pub kind_next : 0 ≡ first (evaluate_checks c table) → cond (kind_wrong c kind) 9 0 ≡ first (block_checks c table kind)
+  unfolding evaluate_checks block_checks first
+  kind_next h = (trio_none (counts_wrong c) (table_short c (length table)) (table_unsound c table) _ h).1
+
   -- nothing is refused of the block
   pub block_passed : first (block_checks c table kind) ≡ 0
       → (counts_wrong c ≡ false) × (table_short c (length table) ≡ false) × (table_unsound c table ≡ false) × (kind_wrong c kind ≡ false)

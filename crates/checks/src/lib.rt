@@ -5,16 +5,16 @@ ghost use Rattle.std.specs.Prelude.{◌≡◌, true, ◌≤◌};
 ghost use Rattle.rules.specs.Each.{every};
 ghost use Rattle.rules.specs.Limits.{most_terms};
 ghost use Rattle.rules.specs.Netlist.{counts_right};
-ghost use Rattle.rules.specs.Says.{first};
+ghost use Rattle.rules.specs.Says.{first, refused};
 ghost use Rattle.rules.specs.Judging.{is_gate, judge_checks, most_made, lent_short, kind_wrong};
 ghost use Rattle.checks.specs.Checking.{block_checks, run_checks};
 
-use netlist::counts::{counts_wrong, table_short};
-use netlist::table::table_unsound;
+use netlist::table::SoundBlock;
 use product::{kind_unknown, operand_bits, outputs, shares};
 use rules::counts::Counts;
-use rules::limits::{Limits, Made};
+use rules::limits::Limits;
 use rules::records::RecordKind;
+use rules::refusals::Refusal;
 
 // The lengths of the lent buffers.
 #[derive(Clone, Copy)]
@@ -36,15 +36,13 @@ fn kind_wrong(c: Counts, kind: u32) -> bool
     (c.i % shares(kind) != 0) | (c.o != outputs(kind, operand_bits(c, kind)))
 }
 
-// Whether every step names a gate.
+// Whether every step names a gate. No way out at the first that names none, as with the records of a table.
 fn names_gates(c: Counts, order: &[u32]) -> bool
     ensures { result ≡ every (is_gate c) order.now }
 {
     let mut right = true;
-    let mut k = 0;
-    while k < order.len() {
-        right = right & ((c.i < order[k]) & (order[k] <= c.m));
-        k += 1;
+    for v in order {
+        right = right & ((c.i < *v) & (*v <= c.m));
     }
     right
 }
@@ -72,52 +70,43 @@ fn lent_short(c: Counts, limit: usize, steps: usize, lent: Lent) -> bool
         | (lent.occurrences < c.m as usize + 1)
 }
 
-// The number of the first refusal of counts, table and kind, or 0.
-fn block_refused(c: Counts, table: &[u32], kind: u32) -> u32
-    ensures { result ≡ first (block_checks c table.now kind) }
+// The first refusal of counts, table and kind, if there is one.
+fn check_block(c: Counts, table: &[u32], kind: u32) -> Result<(), Refusal>
+    ensures { refused result ≡ first (block_checks c table.now kind) }
 {
-    if counts_wrong(c) {
-        return 2;
-    }
-    if table_short(c, table.len()) {
-        return 3;
-    }
-    if table_unsound(c, table) {
-        return 8;
-    }
+    SoundBlock::made(c, table)?;
     if kind_wrong(c, kind) {
-        return 9;
+        return Err(Refusal::WrongKind);
     }
-    0
+    Ok(())
 }
 
-// The number of the first refusal of limit, order and lent buffers, or 0.
-fn run_refused(c: Counts, limit: u64, order: &[u32], lent: Lent) -> u32
+// The first refusal of limit, order and lent buffers, if there is one.
+fn check_run(c: Counts, limit: u64, order: &[u32], lent: Lent) -> Result<(), Refusal>
     requires { counts_right c ≡ true }
-    ensures { result ≡ first (run_checks c limit order.now lent) }
+    ensures { refused result ≡ first (run_checks c limit order.now lent) }
 {
-    let made = Limits::made(limit, c.m, order.len());
-    match made {
-        Made::Refused(number) => number,
-        Made::Within(limits) => {
-            if !names_gates(c, order) {
-                return 11;
-            }
-            if lent_short(c, limits.terms, limits.steps, lent) {
-                return 12;
-            }
-            0
-        }
+    let limits = Limits::made(limit, c.m, order.len())?;
+    if !names_gates(c, order) {
+        return Err(Refusal::WrongOrder);
     }
+    if lent_short(c, limits.terms, limits.steps, lent) {
+        return Err(Refusal::ShortBuffer);
+    }
+    Ok(())
 }
 
-// The number of the first refusal, or 0.
-pub fn refused(c: Counts, table: &[u32], kind: u32, limit: u64, order: &[u32], lent: Lent) -> u32
-    ensures { result ≡ first (judge_checks c table.now kind limit order.now lent.store lent.scratch lent.log lent.occurrences) }
+// The first refusal, if there is one.
+pub fn check(
+    c: Counts,
+    table: &[u32],
+    kind: u32,
+    limit: u64,
+    order: &[u32],
+    lent: Lent,
+) -> Result<(), Refusal>
+    ensures { refused result ≡ first (judge_checks c table.now kind limit order.now lent.store lent.scratch lent.log lent.occurrences) }
 {
-    let number = block_refused(c, table, kind);
-    if number != 0 {
-        return number;
-    }
-    run_refused(c, limit, order, lent)
+    check_block(c, table, kind)?;
+    check_run(c, limit, order, lent)
 }

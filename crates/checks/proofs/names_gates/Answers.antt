@@ -6,15 +6,13 @@ use Rattle.rules.specs.Judging.{is_gate}
 use Rattle.checks.proofs.Checked.{every_more}
 use Rattle.checks.proofs.names_gates.Goals as goal
 
-pub loop-k-init : goal.loop-k-init
+pub loop-v-init : goal.loop-v-init
 unfolding every
-loop-k-init c = (omega arith, refl)
+loop-v-init c = refl
 
-pub loop-k-preserved : goal.loop-k-preserved
+pub loop-v-preserved : goal.loop-v-preserved
 unfolding is_gate
-loop-k-preserved c =
-    (omega arith, every_more (is_gate c.args.c) c.args.order.now c.loop-k.k _ _ (omega arith) c.loop-k.invariant.1 refl)
+loop-v-preserved c = every_more (is_gate c.args.c) c.args.order.now c.loop-v.v-index _ _ (omega arith) c.loop-v.invariant refl
 
 pub returns : goal.returns
-returns c =
-    rw (← take_all c.loop-k.k c.args.order.now (omega arith)) c.loop-k.invariant.1
+returns c = rw (← take_all c.loop-v.v-index c.args.order.now c.loop-v-test.false) c.loop-v.invariant

@@ -1,13 +1,8 @@
--- The loop of `names_gates`: so far every step has named a gate, or not. Assumes nothing.
-use mathlib.Core.Path.{◌≡◌}
-use Prim.Native.Nat.{◌-◌, ◌≤◌}
-use lib.ListN.{length, take}
+-- So far every step has named a gate, or not.
+use Rattle.std.proofs.Common.{◌≡◌, take}
 use Rattle.rules.specs.Each.{every}
 use Rattle.rules.specs.Judging.{is_gate}
 use Rattle.checks.proofs.names_gates.Given as goal
 
-abbrev pub invariant-loop-k : goal.invariant-loop-k
-invariant-loop-k l = (l.k ≤ length l.order) × (l.right ≡ every (is_gate l.c) (take l.k l.order))
-
-abbrev pub decreases-loop-k : goal.decreases-loop-k
-decreases-loop-k l = length l.order - l.k
+abbrev pub invariant-loop-v : goal.invariant-loop-v
+invariant-loop-v l = l.right ≡ every (is_gate l.c) (take l.v-index l.order)

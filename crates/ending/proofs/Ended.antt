@@ -3,15 +3,18 @@ use mathlib.Core.Path.{◌≡◌, refl, ap, sym, ◌∙◌}
 use mathlib.Core.Bool.{Bool, true, false, cond, ◌&&◌}
 use mathlib.Core.List.{List, [], ◌∷◌}
 use Prim.Native.Nat.{ℕ, zero, suc, ◌+◌, ◌*◌, ◌/◌, ◌%◌, ◌^◌, ◌<◌, ◌≤◌}
-use native.Mathlib.Nat.{zero-add, mul_assoc, zero-mul, div-lt_iff_lt-mul, div-add-mod', mod-lt, pow-succ', div-eq_of_lt}
+use native.Mathlib.Nat.{zero-add, mul_assoc, zero-mul, div-lt_iff_lt-mul, div-add-mod', mod-lt, pow-succ', div-eq_of_lt, div-div-eq-div-mul}
 use native.Mathlib.Numerals.{add-one}
 use native.Mathlib.Omega.{arith}
 use lib.Count.{ones, ones_step}
 use lib.Dec.{ltb}
 use lib.ListN.{length, get_or, take, drop, drop_of_length-le}
-use lib.Pow.{pow_pos, pow_mono, shl_exact}
+use lib.Pow.{pow_pos, pow_mono, pow-add, shl_exact}
 use lib.Seq.{drop-cons}
-use borrow.Author.Tests.{lt-ltb, le-ltb, eq-eqb, ne_eqb, ltb-true, ltb-false}
+use borrow.Author.Tests.{lt-ltb, le-ltb, ltb-true, ltb-false, eqb-true, eqb-false}
+use Rattle.std.proofs.Common.{◌||◌, eqb, not, add-zero, Some, Less, Equal, Greater}
+use Rattle.std.specs.List.{list_any, range_with_len}
+use Rattle.std.specs.Ordering.{is_lt, is_some_and, nat_cmp, partial_lt, partial_ordering_then}
 use Rattle.rules.specs.Each.{every}
 use Rattle.rules.specs.Judging.{set_width, term_width, inputs_only, sooner, soonest, differs, ended}
 use Rattle.rules.specs.Limits.{most_variables}
@@ -21,7 +24,9 @@ use Rattle.rules.specs.Says.{answers}
 use Rattle.rules.specs.Values.{bit}
 use Rattle.rules.specs.declared.counts.Counts.{Counts}
 use Rattle.rules.proofs.Gathered.{under_of}
+use Rattle.netlist.specs.Taken.{Fitting}
 use Rattle.netlist.proofs.Facts.{facts}
+use Rattle.product.proofs.Readings.{one_shift}
 use Rattle.words.specs.Numbers.{num, words_at}
 use Rattle.words.specs.Stored.{decoded}
 use Rattle.words.proofs.Stored.{length_decoded, decoded_at, stride_in}
@@ -51,6 +56,23 @@ module _ (s v : ℕ) where
           omega (arith, zero-mul (2 ^ v), mod-lt s (pow_pos v))
       go (suc zero) e = absurd (n (rw e))
       go (suc (suc k)) e = absurd (omega (arith, few))
+
+-- a set of variables below a + n has none from a on where it is below 2^a
+pub none_from : (s n a : ℕ) → s < 2 ^ (a + n) → not (list_any (λ v. eqb (bit s v) 1) (range_with_len a n)) ≡ ltb s (2 ^ a)
+none_from s zero a h = sym (lt-ltb s (2 ^ a) (rw add-zero at h))
+none_from s (suc n) a h =
+    let e : a + suc n ≡ a + 1 + n = omega arith in
+    go (eqb (bit s a) 1) (ltb s (2 ^ (a + 1))) refl refl (none_from s n (a + 1) (rw e at h))
+  where
+    more : 2 ^ a ≤ 2 ^ (a + 1)
+    more = pow_mono {i = a} {j = a + 1} (omega arith)
+
+    go : (t u : Bool) → eqb (bit s a) 1 ≡ t → ltb s (2 ^ (a + 1)) ≡ u
+        → not (list_any (λ v. eqb (bit s v) 1) (range_with_len (a + 1) n)) ≡ ltb s (2 ^ (a + 1))
+        → not (t || list_any (λ v. eqb (bit s v) 1) (range_with_len (a + 1) n)) ≡ ltb s (2 ^ a)
+    go true u e f later = sym (le-ltb s (2 ^ a) (gate_there s a (eqb-true (bit s a) 1 e)))
+    go false true e f later = later ∙ f ∙ sym (lt-ltb s (2 ^ a) (gate_absent s a (ltb-true s (2 ^ (a + 1)) f) (eqb-false (bit s a) 1 e)))
+    go false false e f later = later ∙ f ∙ sym (le-ltb s (2 ^ a) (omega (arith, more, ltb-false s (2 ^ (a + 1)) f)))
 
 -- sets that fall from below a bound pass the test of the bound
 falling : (bound b : ℕ) (p : Polynomial) → Below b p → b ≤ bound → every (λ (t : Term). ltb t.1 bound) p ≡ true
@@ -119,22 +141,31 @@ ones_double x =
     let half : 2 * x / 2 ≡ x = omega arith in
     ones_step (2 * x) ∙ rw (low, half) (zero-add (ones x))
 
-module _ (x y : ℕ) where
-  -- fewer variables
-  pub sooner_fewer : ones x < ones y → sooner (2 * x) (2 * y) ≡ true
-  unfolding sooner
-  sooner_fewer h = rw (ones_double x, ones_double y, lt-ltb (ones x) (ones y) h)
+-- two tests in turn, as an order of pairs asks them
+pairs_in_turn : (less same below equal : Bool)
+    → is_some_and is_lt (partial_ordering_then (Some (cond less Less (cond same Equal Greater))) (Some (cond below Less (cond equal Equal Greater))))
+    ≡ (less || (same && below))
+pairs_in_turn true same below equal = refl
+pairs_in_turn false true true equal = refl
+pairs_in_turn false true false true = refl
+pairs_in_turn false true false false = refl
+pairs_in_turn false false below equal = refl
 
-  -- as many: by the numbers
-  pub sooner_same : ones x ≡ ones y → sooner (2 * x) (2 * y) ≡ ltb (2 * x) (2 * y)
-  unfolding sooner
-  sooner_same h = rw (ones_double x, ones_double y, le-ltb (ones x) (ones y) (omega arith), eq-eqb (ones x) (ones y) h)
+-- twice two numbers stand as the numbers do
+ltb_double : (x y : ℕ) → ltb (2 * x) (2 * y) ≡ ltb x y
+ltb_double x y = go (ltb x y) refl
+  where
+    go : (t : Bool) → ltb x y ≡ t → ltb (2 * x) (2 * y) ≡ t
+    go true e = lt-ltb (2 * x) (2 * y) (omega (arith, ltb-true x y e))
+    go false e = le-ltb (2 * x) (2 * y) (omega (arith, ltb-false x y e))
 
-  -- more
-  pub sooner_more : ones y < ones x → sooner (2 * x) (2 * y) ≡ false
-  unfolding sooner
-  sooner_more h =
-      rw (ones_double x, ones_double y, le-ltb (ones x) (ones y) (omega arith), ne_eqb (ones x) (ones y) (λ e. omega arith))
+-- of two halved sets, the order of how many variables they have and of the sets themselves is that of the whole sets
+pub sooner_halves : (x y : ℕ)
+    → partial_lt (λ (a b : ℕ × ℕ). partial_ordering_then (Some (nat_cmp a.0 b.0)) (Some (nat_cmp a.1 b.1))) (ones x, x) (ones y, y) ≡ sooner (2 * x) (2 * y)
+unfolding sooner
+sooner_halves x y =
+    pairs_in_turn (ltb (ones x) (ones y)) (eqb (ones x) (ones y)) (ltb x y) (eqb x y)
+    ∙ rw (ones_double x, ones_double y, ltb_double x y)
 
 -- one set more
 pub soonest_next : (p : Polynomial) (k best half r : ℕ) → k < length p → (get_or p k (0, 0)).1 ≡ 2 * half
@@ -187,6 +218,19 @@ soonest_done p k s h = rw (drop_of_length-le p {i = k} h)
 pub top_shifted : (y : ℕ) → y < 2 → y * 2 ^ 63 % 2 ^ 64 ≡ y * 2 ^ 63
 top_shifted y h = shl_exact 1 63 64 h (omega arith)
 
+-- above bit n, and there above bit n, is above bit 2n
+pub twice_above : (x n : ℕ) → x / 2 ^ n / 2 ^ n ≡ x / 2 ^ (2 * n)
+twice_above x n =
+    let double : n + n ≡ 2 * n = omega arith in
+    div-div-eq-div-mul x (2 ^ n) (2 ^ n) ∙ rw (← pow-add 2 n n, double)
+
+-- the code's `1 << n` is some number, and what is left of x by it is below 2^n
+pub shift_some : (n : ℕ) → n < 64 → 0 < 1 * 2 ^ n % 2 ^ 64
+shift_some n h = rw (one_shift n h) (pow_pos n)
+
+pub low_below : (x n : ℕ) → n < 64 → x % (1 * 2 ^ n % 2 ^ 64) < 2 ^ n
+low_below x n h = rw (one_shift n h) (mod-lt x (pow_pos n))
+
 module _ {w count : ℕ} {store : List ℕ} (h : Halves w count store) where
   -- the set of the k-th term
   set_of : (k : ℕ) → k < count → (get_or (decoded w count store) k (0, 0)).1 ≡ num (words_at store (k * (w + 1) + 1) w)
@@ -219,7 +263,7 @@ below_first : (b : ℕ) (p : Polynomial) → Below b p → 0 < length p → (get
 below_first b [] h l = absurd (omega arith)
 below_first b (t ∷ p) h l = h.0
 
-module _ {c : Counts} {table : List ℕ} {kind count : ℕ} {store : List ℕ} (e : Ending c table kind count store) (some : 0 < count) where
+module _ {c : Counts} {table : List ℕ} {kind count : ℕ} {store : List ℕ} (fit : Fitting c table) (e : Ending c kind count store) (some : 0 < count) where
   -- the polynomial held, and the set of its first term
   abbrev last : Polynomial
   last = decoded (set_width c) count store
@@ -234,7 +278,7 @@ module _ {c : Counts} {table : List ℕ} {kind count : ℕ} {store : List ℕ} (
   pub ending_first : (c.i ≤ c.m) × (c.m ≤ most_variables) × (1 + set_width c ≤ length store) × (top < 2 ^ (c.m + 1))
   unfolding term_width
   ending_first =
-      let f = facts e.sound.fitting in
+      let f = facts fit in
       let room = stride_in 0 count (set_width c) (length store) some e.room in (
         omega (arith, f.counts.variables),
         f.counts.most,
@@ -258,7 +302,7 @@ module _ {c : Counts} {table : List ℕ} {kind count : ℕ} {store : List ℕ} (
     pub ending_halves : Halves (c.m / 64 + 1) count store
     unfolding term_width set_width
     ending_halves =
-        let f = facts e.sound.fitting in
+        let f = facts fit in
         let most : 2 ^ (c.i + 1) ≤ 2 ^ 65 = pow_mono {i = c.i + 1} {j = 65} (omega (arith, f.counts.inputs.1)) in
         record {
           wide = omega arith;

@@ -4,7 +4,6 @@ use Rattle.rules.specs.Judging.{misfits, set_width, term_width}
 use Rattle.rules.specs.Polynomial.{Polynomial, Below, Under}
 use Rattle.rules.specs.Product.{kind_of}
 use Rattle.rules.specs.declared.counts.Counts.{Counts}
-use Rattle.netlist.specs.Taken.{Sound}
 use Rattle.words.specs.Stored.{decoded}
 
 -- variable 0 is in no set
@@ -20,9 +19,8 @@ pub record Halves (w count : ℕ) (store : List ℕ) : Type 0 where
   pub under : Under (2 ^ 65) (decoded w count store)
   pub even : Evens (decoded w count store)
 
--- a sound block that fits its kind, and in the store a polynomial over its variables
-pub record Ending (c : Counts) (table : List ℕ) (kind count : ℕ) (store : List ℕ) : Type 0 where
-  pub sound : Sound c table
+-- counts of a block that fits its kind, and in the store a polynomial over its variables
+pub record Ending (c : Counts) (kind count : ℕ) (store : List ℕ) : Type 0 where
   pub fitting : misfits c (kind_of kind) ≡ false
   pub room : count * term_width c ≤ length store
   pub falls : Below (2 ^ (c.m + 1)) (decoded (set_width c) count store)

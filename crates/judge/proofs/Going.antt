@@ -2,6 +2,7 @@
 use mathlib.Core.Path.{◌≡◌, refl, ap, sym, ◌∙◌}
 use mathlib.Core.Bool.{true, false}
 use mathlib.Core.List.{List, []}
+use Rattle.std.specs.Prelude.{Some, None, Result, Ok, Err, is_ok}
 use Prim.Native.Nat.{ℕ, suc, ◌+◌, ◌^◌, ◌<◌, ◌≤◌}
 use native.Mathlib.Numerals.{add-one}
 use native.Mathlib.Omega.{arith}
@@ -19,11 +20,11 @@ use Rattle.rules.specs.declared.counts.Counts.{Counts}
 use Rattle.rules.proofs.Trails.{length_trail, trail_first, trail_next, length_records, records_at}
 use Rattle.demands.proofs.StepShape.{gate_here}
 use Rattle.words.specs.Stored.{decoded}
-use Rattle.judge.specs.Running.{Running, Turned, Finished}
+use Rattle.judge.specs.Running.{Running, Turned, steps_of, terms_of, Finished}
 use Rattle.judge.specs.declared.turn.Turn.{Turn}
-use Rattle.judge.specs.declared.run.Ran.{Ran}
+use Rattle.judge.specs.declared.run.NoRoom.{NoRoom}
 use Rattle.judge.proofs.Numbers.{with_again}
-use Rattle.judge.proofs.Held.{running_decoded, step_normal, Laid, moved}
+use Rattle.judge.proofs.Held.{running_decoded, step_normal, Laid, none_counted, moved}
 
 module _ (limit : ℕ) (list : List Polynomial) (j : ℕ) (h : j < length list) where
   -- a polynomial with room is one more
@@ -115,7 +116,7 @@ module _ {c : Counts} {table : List ℕ} {limit : ℕ} {order : List ℕ} {first
         (rw (running_decoded g.running) g.running, gate.0, gate.1)
 
     -- the polynomial held at the end, where the next has no room or there is none
-    finish : roomy limit (path c table first order) ≡ suc k → (r : Ran) → r.fits ≡ ltb (length order) (suc k) → r.steps ≡ k → r.terms ≡ count
+    finish : roomy limit (path c table first order) ≡ suc k → (r : Result ℕ NoRoom) → is_ok r ≡ ltb (length order) (suc k) → steps_of (length order) r ≡ k → terms_of r ≡ count
         → Finished c table limit order (path c table first order) store₀ scratch₀ log₀ occurrences₀ r store (replicate (length scratch₀) 0) log occurrences
     unfolding held completed
     finish e r fits steps counted =
@@ -132,52 +133,51 @@ module _ {c : Counts} {table : List ℕ} {limit : ℕ} {order : List ℕ} {first
         }
 
     -- after the last step
-    pub going_end : k ≡ length order → (r : Ran) → r.fits ≡ true → r.steps ≡ k → r.terms ≡ count
-        → Finished c table limit order (path c table first order) store₀ scratch₀ log₀ occurrences₀ r store scratch log occurrences
-    going_end e r fits steps counted =
+    pub going_end : k ≡ length order → Finished c table limit order (path c table first order) store₀ scratch₀ log₀ occurrences₀ (Ok count) store scratch log occurrences
+    going_end e =
         let clean : scratch ≡ replicate (length scratch₀) 0 = rw g.scratch_lent at g.running.clean in
         let last : roomy limit (drop (suc k) (path c table first order)) ≡ 0 =
         roomy_none limit (path c table first order) (suc k) (omega (arith, length_trail (2 ^ c.o) c table first order)) in
-        rw clean (finish (omega (arith, g.room)) r (fits ∙ sym (lt-ltb (length order) (suc k) (omega arith))) steps counted)
+        rw clean (finish (omega (arith, g.room)) (Ok count) (sym (lt-ltb (length order) (suc k) (omega arith))) (sym e) refl)
 
     module _ (h : k < length order) (every_gate : every (is_gate c) order ≡ true) {t : Turn} {store' scratch' occurrences' : List ℕ}
-        (turned : Turned c limit count (get_or order k 0) (made (2 ^ c.o) c table (get_or order k 0) (decoded (set_width c) count store)) (step (2 ^ c.o) c table (get_or order k 0) (decoded (set_width c) count store)) store scratch occurrences t store' scratch' occurrences') where
+        (turned : Turned c limit (made (2 ^ c.o) c table (get_or order k 0) (decoded (set_width c) count store)) (step (2 ^ c.o) c table (get_or order k 0) (decoded (set_width c) count store)) store scratch occurrences t store' scratch' occurrences') where
       -- the turn is to the next polynomial
-      turned_next : Turned c limit count (get_or order k 0) (made (2 ^ c.o) c table (get_or order k 0) (get_or (path c table first order) k [])) (get_or (path c table first order) (suc k) []) store scratch occurrences t store' scratch' occurrences'
+      turned_next : Turned c limit (made (2 ^ c.o) c table (get_or order k 0) (get_or (path c table first order) k [])) (get_or (path c table first order) (suc k) []) store scratch occurrences t store' scratch' occurrences'
       turned_next =
           rw (trail_next (2 ^ c.o) c table order first k h, ← running_decoded g.running) turned
 
       -- a turn without room ends the run
-      pub going_full : t.fits ≡ false → (r : Ran) → r.fits ≡ false → r.steps ≡ k → r.terms ≡ count
-          → Finished c table limit order (path c table first order) store₀ scratch₀ log₀ occurrences₀ r store' scratch' log occurrences'
-      going_full full r fits steps counted =
+      pub going_full : t.held ≡ None
+          → Finished c table limit order (path c table first order) store₀ scratch₀ log₀ occurrences₀ (Err (record { steps = k; terms = count })) store' scratch' log occurrences'
+      going_full full =
           let t' = turned_next in
-          let over_limit : leb (length (get_or (path c table first order) (suc k) [])) limit ≡ false = sym t'.fits ∙ full in
+          let over_limit : leb (length (get_or (path c table first order) (suc k) [])) limit ≡ false = none_counted _ _ (sym full ∙ t'.held) in
           let same : store' ≡ store = rw over_limit at t'.stored in
           let clean : scratch' ≡ replicate (length scratch₀) 0 = rw g.scratch_lent at t'.cleared in
           let still : occurrences' ≡ occurrences = rw over_limit at t'.numbers in
           let z : roomy limit (drop (suc k) (path c table first order)) ≡ 0 =
           roomy_full limit (path c table first order) (suc k) (omega (arith, length_trail (2 ^ c.o) c table first order)) (leb-false _ _ over_limit) in
-          rw (same, clean, still) (finish (omega (arith, g.room)) r (fits ∙ sym (le-ltb (length order) (suc k) (omega arith))) steps counted)
+          rw (same, clean, still) (finish (omega (arith, g.room)) (Err (record { steps = k; terms = count })) (sym (le-ltb (length order) (suc k) (omega arith))) refl refl)
 
       -- a turn with room is one step more
-      pub going_more : length order ≤ length log₀ → t.fits ≡ true
-          → Going c table limit order first store₀ scratch₀ log₀ occurrences₀ (k + 1) t.terms store' scratch' (set log k (record { gate = t.gate; terms = t.terms; made = t.made })) occurrences'
-      going_more long fits =
+      pub going_more : length order ≤ length log₀ → {terms : ℕ} → t.held ≡ Some terms
+          → Going c table limit order first store₀ scratch₀ log₀ occurrences₀ (k + 1) terms store' scratch' (set log k (record { gate = get_or order k 0; terms = terms; made = t.made })) occurrences'
+      going_more long {terms} held =
           let t' = turned_next in
           let gate = gate_here c order every_gate k h in
           let normal = step_normal g.running (get_or order k 0) gate.0 gate.1 in
           let next : get_or (path c table first order) (suc k) [] ≡ step (2 ^ c.o) c table (get_or order k 0) (get_or (path c table first order) k []) =
           trail_next (2 ^ c.o) c table order first k h in
-          let m : Laid c table limit t.terms (get_or (path c table first order) (suc k) []) store scratch occurrences store' scratch' occurrences' =
-          moved g.running (rw next normal) t' fits in
+          let m : Laid c table limit terms (get_or (path c table first order) (suc k) []) store scratch occurrences store' scratch' occurrences' =
+          moved g.running (rw next normal) t' held in
           let more : k + 1 ≡ suc k = add-one k in
           let all : length (path c table first order) ≡ suc (length order) = length_trail (2 ^ c.o) c table first order in
           let few : length (get_or (path c table first order) (suc k) []) ≤ limit = omega (arith, m.running.counted, m.running.few) in
           let new : length (path_records c table first order) ≡ length order = length_records (2 ^ c.o) c table order (path c table first order) (omega arith) in
           let none : StepRecord = record { gate = 0; terms = 0; made = 0 } in
-          let here : record { gate = t.gate; terms = t.terms; made = t.made } ≡ get_or (path_records c table first order) k none =
-          rw (records_at (2 ^ c.o) c table order (path c table first order) k none h (omega arith), ← m.running.counted, turned.gate, t'.peak) refl in
+          let here : record { gate = get_or order k 0; terms = terms; made = t.made } ≡ get_or (path_records c table first order) k none =
+          rw (records_at (2 ^ c.o) c table order (path c table first order) k none h (omega arith), ← m.running.counted, t'.peak) refl in
           record {
             within = omega arith;
             running = rw more m.running;

@@ -1,4 +1,5 @@
 -- A polynomial held in lent words: what the words decode to, what a step of it asks, and what holds after the step.
+use Rattle.std.specs.Prelude.{Option, Some, None}
 use mathlib.Core.Path.{◌≡◌, refl, ap, sym, ◌∙◌}
 use mathlib.Core.Bool.{Bool, true, false, cond}
 use mathlib.Core.List.{List}
@@ -109,7 +110,7 @@ numberable {c} {occurrences = occurrences} r {v} above below e =
     (record { v_in = omega arith; low = rw e (record_within r.sound v above below).low; numbered = r.numbered })
 
 -- a step of the gate's record is the step of the rules
-pub stepped_to : (c : Counts) (table : List ℕ) (v : ℕ) (p : Polynomial) {limit r : ℕ} {part : Record} {store scratch store' scratch' : List ℕ}
+pub stepped_to : (c : Counts) (table : List ℕ) (v : ℕ) (p : Polynomial) {limit : ℕ} {r : Option ℕ} {part : Record} {store scratch store' scratch' : List ℕ}
     → part ≡ record_at c table v
     → Stepped (c.m / 64 + 1) limit (gather (2 ^ c.o) (all_replaced (2 ^ c.o) v part p)) store scratch r store' scratch'
     → Stepped (set_width c) limit (step (2 ^ c.o) c table v p) store scratch r store' scratch'
@@ -122,44 +123,22 @@ pub step_numbers : (c : Counts) (table : List ℕ) (v : ℕ) (p : Polynomial) {l
 unfolding step
 step_numbers c table v p e s = rw (← e) s
 
-module _ {c : Counts} {limit count v peak r : ℕ} {q : Polynomial} {store scratch occurrences store' scratch' occurrences' : List ℕ}
-    (s : Stepped (set_width c) limit q store scratch r store' scratch') (t : Turn) (gate : t.gate ≡ v) (told : t.made ≡ peak)
-    (numbers : occurrences' ≡ cond (leb (length q) limit) (with_occurrences c q occurrences) occurrences) where
-  -- a step with room is a turn
-  pub turned_fits : r ≤ limit → t.fits ≡ true → t.terms ≡ r → Turned c limit count v peak q store scratch occurrences t store' scratch' occurrences'
-  turned_fits few fits terms = go (leb (length q) limit) refl
-    where
-      go : (b : Bool) → leb (length q) limit ≡ b → Turned c limit count v peak q store scratch occurrences t store' scratch' occurrences'
-      go true e =
-          record {
-            fits = fits ∙ sym e;
-            gate = gate;
-            peak = told;
-            terms = rw e (terms ∙ (rw e at s.counted));
-            stored = s.stored;
-            cleared = s.cleared;
-            numbers = rw e (rw e at numbers);
-          }
-      go false e = let n : r ≡ limit + 1 = rw e at s.counted in absurd (omega arith)
+-- a step is a turn
+pub turned : {c : Counts} {limit peak : ℕ} {q : Polynomial} {r : Option ℕ} {store scratch occurrences store' scratch' occurrences' : List ℕ}
+    → Stepped (set_width c) limit q store scratch r store' scratch' → (t : Turn) → t.held ≡ r → t.made ≡ peak
+    → occurrences' ≡ cond (leb (length q) limit) (with_occurrences c q occurrences) occurrences
+    → Turned c limit peak q store scratch occurrences t store' scratch' occurrences'
+turned s t held told numbers =
+    record { held = held ∙ s.counted; peak = told; stored = s.stored; cleared = s.cleared; numbers = numbers }
 
-  -- so is one without, which leaves the terms held before
-  pub turned_full : limit < r → t.fits ≡ false → t.terms ≡ count → Turned c limit count v peak q store scratch occurrences t store' scratch' occurrences'
-  turned_full many fits terms = go (leb (length q) limit) refl
-    where
-      go : (b : Bool) → leb (length q) limit ≡ b → Turned c limit count v peak q store scratch occurrences t store' scratch' occurrences'
-      go true e =
-          let n : r ≡ length q = rw e at s.counted in
-          absurd (omega (arith, leb-true (length q) limit e))
-      go false e =
-          record {
-            fits = fits ∙ sym e;
-            gate = gate;
-            peak = told;
-            terms = rw e terms;
-            stored = s.stored;
-            cleared = s.cleared;
-            numbers = rw e (rw e at numbers);
-          }
+-- terms that are counted have room, and terms that are not have none
+pub some_counted : (b : Bool) (n m : ℕ) → Some m ≡ cond b (Some n) None → (b ≡ true) × (m ≡ n)
+some_counted true n m e = (refl, cc)
+some_counted false n m e = absurd (cc)
+
+pub none_counted : (b : Bool) (n : ℕ) → None ≡ cond b (Some n) None → b ≡ false
+none_counted true n e = absurd (cc)
+none_counted false n e = refl
 
 -- a run goes on in words that are as many as were lent, with the numbers of p in front of those lent for them
 pub record Laid (c : Counts) (table : List ℕ) (limit count : ℕ) (p : Polynomial) (store scratch occurrences store' scratch' occurrences' : List ℕ) : Type 0 where
@@ -201,13 +180,12 @@ laid {c} {table} {limit} {count} {p} {store} {scratch} {occurrences} {store'} {s
     }
 
 -- a turn with room takes the run to its polynomial
-pub moved : {c : Counts} {table : List ℕ} {limit count v peak : ℕ} {p q : Polynomial} {store scratch occurrences store' scratch' occurrences' : List ℕ} {t : Turn}
+pub moved : {c : Counts} {table : List ℕ} {limit count peak : ℕ} {p q : Polynomial} {store scratch occurrences store' scratch' occurrences' : List ℕ} {t : Turn} {terms : ℕ}
     → Running c table limit count p store scratch occurrences → Normal c q
-    → Turned c limit count v peak q store scratch occurrences t store' scratch' occurrences' → t.fits ≡ true
-    → Laid c table limit t.terms q store scratch occurrences store' scratch' occurrences'
-moved {c} {table} {limit} {count} {v} {peak} {p} {q} {store} {scratch} {occurrences} {store'} {scratch'} {occurrences'} {t} r normal turned fits =
-    let fit : leb (length q) limit ≡ true = sym turned.fits ∙ fits in
-    let terms : t.terms ≡ length q = rw fit at turned.terms in
-    let stored : store' ≡ padded (length store) (polynomial_words (set_width c) q) = rw fit at turned.stored in
-    let numbers : occurrences' ≡ with_occurrences c q occurrences = rw fit at turned.numbers in
-    laid r.sound r.taken r.store_room r.scratch_room (with_room c p occurrences r.numbers) normal terms (leb-true (length q) limit fit) stored turned.cleared numbers
+    → Turned c limit peak q store scratch occurrences t store' scratch' occurrences' → t.held ≡ Some terms
+    → Laid c table limit terms q store scratch occurrences store' scratch' occurrences'
+moved {c} {table} {limit} {count} {peak} {p} {q} {store} {scratch} {occurrences} {store'} {scratch'} {occurrences'} {t} {terms} r normal turned held =
+    let room = some_counted _ _ _ (sym held ∙ turned.held) in
+    let stored : store' ≡ padded (length store) (polynomial_words (set_width c) q) = rw room.0 at turned.stored in
+    let numbers : occurrences' ≡ with_occurrences c q occurrences = rw room.0 at turned.numbers in
+    laid r.sound r.taken r.store_room r.scratch_room (with_room c p occurrences r.numbers) normal room.1 (leb-true (length q) limit room.0) stored turned.cleared numbers

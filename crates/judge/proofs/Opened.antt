@@ -1,8 +1,8 @@
 -- The outcome once nothing is refused, from what the start, the run and the answer leave.
 use mathlib.Core.Path.{◌≡◌, refl, ap, sym, subst, ◌∙◌}
-use mathlib.Core.Bool.{Bool, true, false, cond}
+use mathlib.Core.Bool.{true, false, cond}
 use mathlib.Core.List.{List, [], ◌∷◌, ◌++◌, append-nil}
-use Prim.Native.Nat.{ℕ, zero, suc, pred, ◌+◌, ◌-◌, ◌*◌, ◌/◌, ◌^◌, ◌<◌, ◌≤◌}
+use Prim.Native.Nat.{ℕ, zero, suc, pred, ◌+◌, ◌-◌, ◌*◌, ◌^◌, ◌<◌, ◌≤◌}
 use native.Mathlib.Nat.{zero-mul, mul-le-mul_right}
 use native.Mathlib.Numerals.{add-one}
 use native.Mathlib.Omega.{arith}
@@ -14,11 +14,14 @@ use Rattle.rules.specs.Each.{every}
 use Rattle.rules.specs.Judging.{set_width, term_width, roomy, held, completed, ended, verdict, polynomial_words, padded, over}
 use Rattle.rules.specs.Netlist.{needed, table_short, table_sound, table_unsound}
 use Rattle.rules.specs.Occurrences.{with_occurrences}
-use Rattle.rules.specs.Polynomial.{Polynomial, Coefficients}
+use Rattle.rules.specs.Polynomial.{Polynomial, Below, Coefficients}
 use Rattle.rules.specs.Product.{Kind, kind_of, operand_width, outputs_of}
-use Rattle.rules.specs.Says.{says, answers}
+use Rattle.std.specs.Prelude.{Option, Some, None, unwrap_or, Result, Ok, Err, is_ok}
+use Rattle.rules.specs.Says.{answer_says, says, answers}
 use Rattle.rules.specs.Steps.{modulus, start, trail, run, after}
 use Rattle.rules.specs.declared.answers.Answer.{Answer}
+use Rattle.rules.specs.declared.answers.Answer.TheVariants.{OutOfRoom}
+use Rattle.rules.specs.declared.refusals.Refusal.{Refusal}
 use Rattle.rules.specs.declared.answers.StepRecord.{StepRecord}
 use Rattle.rules.specs.declared.counts.Counts.{Counts}
 use Rattle.rules.proofs.Sound.{right_counts, sound_table}
@@ -28,7 +31,7 @@ use Rattle.words.specs.Stored.{decoded}
 use Rattle.words.proofs.Encoded.{length_padded}
 use Rattle.words.proofs.Stored.{stride_le}
 use Rattle.netlist.proofs.Facts.{facts}
-use Rattle.tally.specs.Marks.{Counting}
+use Rattle.tally.specs.Marks.{Numbered}
 use Rattle.rules.proofs.Bits.{bit_first}
 use Rattle.rules.proofs.Trails.{length_run, trail_first}
 use Rattle.demands.proofs.Absent.{Absent, false_absent}
@@ -38,9 +41,10 @@ use Rattle.start.specs.Start.{Asked, Started, counted, within}
 use Rattle.ending.specs.Ending.{Evens, Ending}
 use Rattle.judge.specs.Running.{Running, Finished}
 use Rattle.judge.specs.Deciding.{Block, Passed, Begun, Closing, Decided, last}
-use Rattle.judge.specs.declared.run.Ran.{Ran}
+use Rattle.judge.specs.declared.run.NoRoom.{NoRoom}
+use Rattle.judge.specs.Running.{steps_of, terms_of}
 use Rattle.judge.proofs.Numbers.{below_numbered, with_again}
-use Rattle.judge.proofs.Held.{set_room, decoded_held, words_fit, running_decoded, Normal, Laid, laid}
+use Rattle.judge.proofs.Held.{set_room, decoded_held, words_fit, running_decoded, Normal, some_counted, none_counted, Laid, laid}
 use Rattle.judge.proofs.Going.{path, roomy_full, roomy_next}
 
 -- the modulus of the run is that of O bits
@@ -78,6 +82,13 @@ pub record Opened (c : Counts) (table : List ℕ) (limit : ℕ) (p : Polynomial)
   pub scratch_lent : length scratch' ≡ length scratch
   pub numbers : occurrences' ≡ with_occurrences c p occurrences
 
+-- so many terms stand in the store, and can be counted
+pub record Countable (c : Counts) (count : ℕ) (store : List ℕ) : Type 0 where
+  pub room : count * (set_width c + 1) ≤ length store
+  pub few : count < 2 ^ 32
+  pub falls : Below (2 ^ (64 * set_width c)) (decoded (set_width c) count store)
+  pub numbered : Numbered (c.m + 1) (decoded (set_width c) count store)
+
 module _ {c : Counts} {table : List ℕ} {kind limit : ℕ} {store scratch occurrences : List ℕ} (b : Block c table kind limit store scratch occurrences) where
   -- what the start asks is there once the store is cleared
   pub asked : {store₁ : List ℕ} → store₁ ≡ replicate (length store) 0 → Asked c table kind limit store₁
@@ -95,7 +106,7 @@ module _ {c : Counts} {table : List ℕ} {kind limit : ℕ} {store scratch occur
       }
 
   -- and what it leaves is the start
-  pub begun : {store₁ store₂ scratch₁ occurrences₁ : List ℕ} {r : ℕ} → store₁ ≡ replicate (length store) 0 → scratch₁ ≡ replicate (length scratch) 0
+  pub begun : {store₁ store₂ scratch₁ occurrences₁ : List ℕ} {r : Option ℕ} → store₁ ≡ replicate (length store) 0 → scratch₁ ≡ replicate (length scratch) 0
       → Started (start (kind_of kind) c table) (set_width c) limit (length store₁) r store₂
       → occurrences₁ ≡ with_occurrences c (cond (leb (length (start (kind_of kind) c table)) limit) (start (kind_of kind) c table) []) occurrences
       → Begun c limit (start (kind_of kind) c table) store scratch occurrences r store₂ scratch₁ occurrences₁
@@ -117,87 +128,68 @@ module _ {c : Counts} {table : List ℕ} {kind limit : ℕ} {store scratch occur
         below_numbered (c.m + 1) (2 ^ (c.m + 1)) (start (kind_of kind) c table) (omega arith) shape.falling none,
       )
 
-  -- no terms can be counted
-  pub counting_none : (words : List ℕ) → Counting words 0 (set_width c) (set_width c) (c.m + 1)
-  unfolding decoded set_width
-  counting_none words =
-      record {
-        room = omega (arith, zero-mul (c.m / 64 + 1 + 1));
-        narrow = omega (arith, (facts b.sound.fitting).counts.most);
-        short = omega arith;
-        some = omega arith;
-        falls = tt;
-        numbered = tt;
-      }
+  abbrev first_terms : Polynomial
+  first_terms = start (kind_of kind) c table
 
-  module _ {store₁ store₂ : List ℕ} {r : ℕ} (e : store₁ ≡ replicate (length store) 0) (s : Started (start (kind_of kind) c table) (set_width c) limit (length store₁) r store₂) where
-    abbrev first_terms : Polynomial
-    first_terms = start (kind_of kind) c table
+  -- a term has at most sixteen words for its set
+  pub start_narrow : set_width c ≤ 16
+  unfolding set_width
+  start_narrow = omega (arith, (facts b.sound.fitting).counts.most)
 
+  module _ {store₁ store₂ : List ℕ} (e : store₁ ≡ replicate (length store) 0) where
     -- where the start has room, its terms are in the store
-    started : r ≤ limit → (leb (length first_terms) limit ≡ true) × (r ≤ limit) × (decoded (set_width c) r store₂ ≡ first_terms) × (r * (set_width c + 1) ≤ length store₂)
+    started : {r : ℕ} → Started first_terms (set_width c) limit (length store₁) (Some r) store₂
+        → (leb (length first_terms) limit ≡ true) × (r ≤ limit) × (decoded (set_width c) r store₂ ≡ first_terms) × (r * (set_width c + 1) ≤ length store₂)
     unfolding counted within term_width
-    started l = go (leb (length first_terms) limit) refl
-      where
-        go : (t : Bool) → leb (length first_terms) limit ≡ t
-            → (leb (length first_terms) limit ≡ true) × (r ≤ limit) × (decoded (set_width c) r store₂ ≡ first_terms) × (r * (set_width c + 1) ≤ length store₂)
-        go true f =
-            let lent : length store₁ ≡ length store = ap length e ∙ length-replicate (length store) 0 in
-            let count : r ≡ length first_terms = rw f at s.count in
-            let words : store₂ ≡ padded (length store) (polynomial_words (set_width c) first_terms) = rw (f, lent) at s.words in
-            let fit = words_fit c limit (length store) first_terms (leb-true _ _ f) b.store_room in
-            let long : length store₂ ≡ length store = ap length words ∙ length_padded (length store) (polynomial_words (set_width c) first_terms) fit in
-            (f, l, rw (count, words) (decoded_held c first_terms (length store) start_normal.0), rw long (stride_le r limit (set_width c) (length store) l b.store_room))
-        go false f = let n : r ≡ limit + 1 = rw f at s.count in absurd (omega arith)
+    started {r} s =
+        let room = some_counted _ _ _ s.count in
+        let few : length first_terms ≤ limit = leb-true _ _ room.0 in
+        let lent : length store₁ ≡ length store = ap length e ∙ length-replicate (length store) 0 in
+        let words : store₂ ≡ padded (length store) (polynomial_words (set_width c) first_terms) = rw (room.0, lent) at s.words in
+        let fit = words_fit c limit (length store) first_terms few b.store_room in
+        let long : length store₂ ≡ length store = ap length words ∙ length_padded (length store) (polynomial_words (set_width c) first_terms) fit in
+        let under : r ≤ limit = omega (arith, room.1) in
+        (room.0, under, rw (room.1, words) (decoded_held c first_terms (length store) start_normal.0), rw long (stride_le r limit (set_width c) (length store) under b.store_room))
 
-    -- and can be counted
-    pub counting_start : r ≤ limit → Counting store₂ r (set_width c) (set_width c) (c.m + 1)
-    counting_start l =
-        let there = started l in
+    -- what the start leaves, terms or none, stands in the store and can be counted
+    counting_start : (r : Option ℕ) → Started first_terms (set_width c) limit (length store₁) r store₂ → Countable c (unwrap_or r 0) store₂
+    unfolding decoded
+    counting_start None s = record { room = omega (arith, zero-mul (set_width c + 1)); few = omega arith; falls = tt; numbered = tt }
+    counting_start (Some r) s =
+        let there = started s in
         record {
           room = there.3;
-          narrow = (counting_none store₂).narrow;
-          short = omega arith;
-          some = omega arith;
+          few = omega (arith, there.1, b.taken);
           falls = rw there.2 (weaken (2 ^ (c.m + 1)) (2 ^ (64 * set_width c)) first_terms (set_room c) start_normal.0);
           numbered = rw there.2 start_normal.2;
         }
 
-    -- the numbers are then those of the start
-    pub numbers_start : {numbers : List ℕ} → r ≤ limit → numbers ≡ with_occurrences c (decoded (set_width c) r store₂) occurrences
-        → numbers ≡ with_occurrences c (cond (leb (length first_terms) limit) first_terms []) occurrences
-    numbers_start l n = let there = started l in n ∙ rw (there.0, there.2)
+    -- so can any number of terms that is theirs
+    pub countable : (r : Option ℕ) → Started first_terms (set_width c) limit (length store₁) r store₂ → (n : ℕ) → n ≡ unwrap_or r 0 → Countable c n store₂
+    countable r s n e = rw e (counting_start r s)
 
-    -- where it has none, nothing is counted
-    pub numbers_none : {numbers : List ℕ} → limit < r → numbers ≡ with_occurrences c (decoded (set_width c) 0 store₂) occurrences
+    -- the numbers are then those of the start, or of no term where it has no room
+    pub numbers_start : (r : Option ℕ) → Started first_terms (set_width c) limit (length store₁) r store₂ → {numbers : List ℕ}
+        → numbers ≡ with_occurrences c (decoded (set_width c) (unwrap_or r 0) store₂) occurrences
         → numbers ≡ with_occurrences c (cond (leb (length first_terms) limit) first_terms []) occurrences
     unfolding counted decoded
-    numbers_none {numbers} l n = go (leb (length first_terms) limit) refl
-      where
-        go : (t : Bool) → leb (length first_terms) limit ≡ t → numbers ≡ with_occurrences c (cond t first_terms []) occurrences
-        go true f = let m : r ≡ length first_terms = rw f at s.count in absurd (omega (arith, leb-true (length first_terms) limit f))
-        go false f = n
+    numbers_start (Some r) s n = let there = started s in n ∙ rw (there.0, there.2)
+    numbers_start None s n = n ∙ rw (none_counted _ _ s.count)
 
   -- a start with room begins a run
-  pub opened : {r : ℕ} {store' scratch' occurrences' : List ℕ} → Begun c limit (start (kind_of kind) c table) store scratch occurrences r store' scratch' occurrences' → r ≤ limit
+  pub opened : {r : ℕ} {store' scratch' occurrences' : List ℕ} → Begun c limit (start (kind_of kind) c table) store scratch occurrences (Some r) store' scratch' occurrences'
       → Opened c table limit (start (kind_of kind) c table) store scratch occurrences r store' scratch' occurrences'
   unfolding counted within
-  opened {r} {store'} {scratch'} {occurrences'} g l = go (leb (length p) limit) refl
-    where
-      p : Polynomial
-      p = start (kind_of kind) c table
-
-      go : (t : Bool) → leb (length p) limit ≡ t → Opened c table limit p store scratch occurrences r store' scratch' occurrences'
-      go true e =
-          let count : r ≡ length p = rw e at g.written.count in
-          let few : length p ≤ limit = leb-true (length p) limit e in
-          let stored : store' ≡ padded (length store) (polynomial_words (set_width c) p) = rw e at g.written.words in
-          let numbers : occurrences' ≡ with_occurrences c p occurrences = rw e at g.occurrence_words in
-          let l : Laid c table limit r p store scratch occurrences store' scratch' occurrences' =
-          laid b.sound b.taken b.store_room b.scratch_room b.numbers_room start_normal count few stored g.scratch_words numbers in
-          let same : decoded (set_width c) r store' ≡ p = running_decoded l.running in
-          record { running = rw same l.running; same = same; few = few; store_lent = l.store_lent; scratch_lent = l.scratch_lent; numbers = numbers }
-      go false e = let n : r ≡ limit + 1 = rw e at g.written.count in absurd (omega arith)
+  opened {r} {store'} {scratch'} {occurrences'} g =
+      let p = start (kind_of kind) c table in
+      let room = some_counted _ _ _ g.written.count in
+      let few : length p ≤ limit = leb-true (length p) limit room.0 in
+      let stored : store' ≡ padded (length store) (polynomial_words (set_width c) p) = rw room.0 at g.written.words in
+      let numbers : occurrences' ≡ with_occurrences c p occurrences = rw room.0 at g.occurrence_words in
+      let l : Laid c table limit r p store scratch occurrences store' scratch' occurrences' =
+      laid b.sound b.taken b.store_room b.scratch_room b.numbers_room start_normal room.1 few stored g.scratch_words numbers in
+      let same : decoded (set_width c) r store' ≡ p = running_decoded l.running in
+      record { running = rw same l.running; same = same; few = few; store_lent = l.store_lent; scratch_lent = l.scratch_lent; numbers = numbers }
 
 module _ {c : Counts} {table : List ℕ} {kind limit : ℕ} {order store scratch : List ℕ} {lent : ℕ} {occurrences : List ℕ}
     (p : Passed c table kind limit order store scratch lent occurrences) where
@@ -218,29 +210,24 @@ module _ {c : Counts} {table : List ℕ} {kind limit : ℕ} {order store scratch
   all_first = (rw all_path (trail_first (2 ^ c.o) c table first order), omega (arith, length_run (kind_of kind) c table order))
 
   -- no room at the start: R at step 0
-  pub decided_none : {r : ℕ} {store' scratch' : List ℕ} {log : List StepRecord} {occurrences' : List ℕ}
-      → Begun c limit first store scratch occurrences r store' scratch' occurrences' → limit < r
-      → (a : Answer) → says a ≡ answers 2 (0 ∷ 0 ∷ []) → Decided c table kind limit order store scratch log occurrences a store' scratch' log occurrences'
-  unfolding held completed over verdict counted within
-  decided_none {r} {store'} {scratch'} {log} {occurrences'} g l a said = go (leb (length first) limit) refl
-    where
-      go : (t : Bool) → leb (length first) limit ≡ t → Decided c table kind limit order store scratch log occurrences a store' scratch' log occurrences'
-      go true e =
-          let n : r ≡ length first = rw e at g.written.count in
-          absurd (omega (arith, leb-true (length first) limit e))
-      go false e =
-          let many : limit < length (get_or all 0 []) = rw all_first.0 (leb-false (length first) limit e) in
-          let none : roomy limit all ≡ 0 = roomy_full limit all 0 all_first.1 many in
-          record {
-            said = said ∙ rw (none, le-leb 0 (length order) (omega arith));
-            store_words = rw none (rw e at g.written.words);
-            scratch_words = g.scratch_words;
-            log_records = rw none;
-            occurrence_words = rw none (rw e at g.occurrence_words);
-          }
+  pub decided_none : {store' scratch' : List ℕ} {log : List StepRecord} {occurrences' : List ℕ}
+      → Begun c limit first store scratch occurrences None store' scratch' occurrences'
+      → Decided c table kind limit order store scratch log occurrences (Ok (OutOfRoom 0 0)) store' scratch' log occurrences'
+  unfolding held completed over verdict counted within answer_says
+  decided_none g =
+      let full = none_counted _ _ g.written.count in
+      let many : limit < length (get_or all 0 []) = rw all_first.0 (leb-false (length first) limit full) in
+      let none : roomy limit all ≡ 0 = roomy_full limit all 0 all_first.1 many in
+      record {
+        said = rw (none, le-leb 0 (length order) (omega arith));
+        store_words = rw none (rw full at g.written.words);
+        scratch_words = g.scratch_words;
+        log_records = rw none;
+        occurrence_words = rw none (rw full at g.occurrence_words);
+      }
 
   module _ {r : ℕ} {store₁ scratch₁ occurrences₁ : List ℕ} (o : Opened c table limit first store scratch occurrences r store₁ scratch₁ occurrences₁)
-      {log : List StepRecord} {ran : Ran} {store₂ scratch₂ : List ℕ} {log₂ : List StepRecord} {occurrences₂ : List ℕ}
+      {log : List StepRecord} {ran : Result ℕ NoRoom} {store₂ scratch₂ : List ℕ} {log₂ : List StepRecord} {occurrences₂ : List ℕ}
       (f : Finished c table limit order (path c table (decoded (set_width c) r store₁) order) store₁ scratch₁ log occurrences₁ ran store₂ scratch₂ log₂ occurrences₂) where
     -- the run was that of the rules
     finished : Finished c table limit order all store₁ scratch₁ log occurrences₁ ran store₂ scratch₂ log₂ occurrences₂
@@ -254,7 +241,7 @@ module _ {c : Counts} {table : List ℕ} {kind limit : ℕ} {order store scratch
         omega arith
 
     -- what the run leaves, with its answer
-    decided : (a : Answer) → says a ≡ verdict (kind_of kind) c table limit order
+    decided : (a : Result Answer Refusal) → says a ≡ verdict (kind_of kind) c table limit order
         → Decided c table kind limit order store scratch log occurrences a store₂ scratch₂ log₂ occurrences₂
     decided a said =
         let g = finished in
@@ -267,16 +254,16 @@ module _ {c : Counts} {table : List ℕ} {kind limit : ℕ} {order store scratch
         }
 
     -- the steps completed, and the start
-    steps_room : ran.steps + 1 ≡ roomy limit all
+    steps_room : steps_of (length order) ran + 1 ≡ roomy limit all
     unfolding completed
     steps_room = ap (λ (n : ℕ). n + 1) finished.steps ∙ pred_more (roomy limit all) some_room
 
     -- no more steps are completed than there are
-    steps_within : ran.steps ≤ length order
+    steps_within : steps_of (length order) ran ≤ length order
     steps_within = omega (arith, steps_room, roomy_le limit all, length_run (kind_of kind) c table order)
 
     -- R at a later step
-    decided_full : ran.fits ≡ false → (a : Answer) → says a ≡ answers 2 ((ran.steps + 1) ∷ ran.terms ∷ [])
+    decided_full : is_ok ran ≡ false → (a : Result Answer Refusal) → says a ≡ answers 2 ((steps_of (length order) ran + 1) ∷ terms_of ran ∷ [])
         → Decided c table kind limit order store scratch log occurrences a store₂ scratch₂ log₂ occurrences₂
     unfolding verdict
     decided_full full a said =
@@ -285,7 +272,7 @@ module _ {c : Counts} {table : List ℕ} {kind limit : ℕ} {order store scratch
         decided a (said ∙ rw (steps_room, g.counted, le-leb (roomy limit all) (length order) most))
 
     -- the store has the polynomial held
-    held_words : decoded (set_width c) ran.terms store₂ ≡ held limit all
+    held_words : decoded (set_width c) (terms_of ran) store₂ ≡ held limit all
     held_words =
         let g = finished in
         rw (g.counted, g.store_words) (decoded_held c (held limit all) (length store₁) g.falls)
@@ -300,14 +287,13 @@ module _ {c : Counts} {table : List ℕ} {kind limit : ℕ} {order store scratch
         go (suc k) l h = evens_of (get_or all k []) (false_absent (kind_of kind) c table order k (omega arith))
 
     -- what the answer asks of the store is there
-    ending : Ending c table kind ran.terms store₂
+    ending : Ending c kind (terms_of ran) store₂
     ending =
         let g = finished in
         let few : length (held limit all) ≤ limit = omega (arith, g.few, g.counted) in
         let fit = words_fit c limit (length store₁) (held limit all) few o.running.store_room in
         let lent : length store₂ ≡ length store₁ = ap length g.store_words ∙ length_padded (length store₁) (polynomial_words (set_width c) (held limit all)) fit in
         record {
-          sound = p.block.sound;
           fitting = p.block.fitting;
           room = omega (arith, o.running.store_room, mul-le-mul_right (term_width c) g.few);
           falls = rw held_words g.falls;
@@ -315,24 +301,27 @@ module _ {c : Counts} {table : List ℕ} {kind limit : ℕ} {order store scratch
         }
 
     -- E, D or U by the last polynomial
-    decided_ended : ran.fits ≡ true → (a : Answer) → says a ≡ ended (kind_of kind) c table ran.steps (decoded (set_width c) ran.terms store₂)
+    decided_ended : is_ok ran ≡ true → (a : Result Answer Refusal) → says a ≡ ended (kind_of kind) c table (steps_of (length order) ran) (decoded (set_width c) (terms_of ran) store₂)
         → Decided c table kind limit order store scratch log occurrences a store₂ scratch₂ log₂ occurrences₂
     unfolding verdict
     decided_ended fits a said =
         let g = finished in
         let last : length order < roomy limit all = ltb-true (length order) (roomy limit all) (sym g.fits ∙ fits) in
-        let steps : ran.steps ≡ length order = omega (arith, steps_room, roomy_le limit all, length_run (kind_of kind) c table order) in
+        let steps : steps_of (length order) ran ≡ length order = omega (arith, steps_room, roomy_le limit all, length_run (kind_of kind) c table order) in
         decided a (said ∙ rw (steps, held_words, lt-leb (roomy limit all) (length order) last))
 
     -- what the answer after the run asks is there
-    pub closing : Closing c table kind ran store₂
+    pub closing : Closing c kind (length order) ran store₂
     closing = record { short = omega (arith, steps_within, p.short); ending = ending }
 
-    -- and with it the outcome is decided
-    pub decided_last : (a : Answer) → says a ≡ last c table kind ran store₂ → Decided c table kind limit order store scratch log occurrences a store₂ scratch₂ log₂ occurrences₂
-    unfolding last
-    decided_last a said = go ran.fits refl
-      where
-        go : (t : Bool) → ran.fits ≡ t → Decided c table kind limit order store scratch log occurrences a store₂ scratch₂ log₂ occurrences₂
-        go true e = decided_ended e a (rw e at said)
-        go false e = decided_full e a (rw e at said)
+-- and with it the outcome is decided
+pub decided_last : {c : Counts} {table : List ℕ} {kind limit : ℕ} {order store scratch : List ℕ} {lent : ℕ} {occurrences : List ℕ}
+    (p : Passed c table kind limit order store scratch lent occurrences) {r : ℕ} {store₁ scratch₁ occurrences₁ : List ℕ}
+    (o : Opened c table limit (start (kind_of kind) c table) store scratch occurrences r store₁ scratch₁ occurrences₁)
+    {log : List StepRecord} {store₂ scratch₂ : List ℕ} {log₂ : List StepRecord} {occurrences₂ : List ℕ} (ran : Result ℕ NoRoom)
+    (f : Finished c table limit order (path c table (decoded (set_width c) r store₁) order) store₁ scratch₁ log occurrences₁ ran store₂ scratch₂ log₂ occurrences₂)
+    (a : Result Answer Refusal) → says a ≡ last c table kind (length order) ran store₂
+    → Decided c table kind limit order store scratch log occurrences a store₂ scratch₂ log₂ occurrences₂
+unfolding last
+decided_last p o (Ok terms) f a said = decided_ended p o f refl a said
+decided_last p o (Err full) f a said = decided_full p o f refl a said

@@ -10,10 +10,12 @@ pub mod unlogged; // unlogged.rt: the judge with a log of its own
 ghost use Rattle.rules.specs.Judging.{Judged};
 ghost use Rattle.judge.specs.Deciding.{handed};
 
-use crate::deciding::{closed, set_out, stopped};
+use crate::deciding::{closed, set_out};
 use crate::run::run;
+use netlist::table::{Block, SoundBlock};
 use rules::answers::{Answer, StepRecord};
 use rules::counts::Counts;
+use rules::refusals::Refusal;
 
 // The answer to a block under a reading, by an order of steps and a limit of terms, or the first refusal in the order of checks. The
 // last polynomial is left in the store, zeros in scratch, a record of each step completed in the log, and in front of `occurrences` the
@@ -28,10 +30,10 @@ pub fn judge(
     scratch: &mut [u64],
     log: &mut [StepRecord],
     occurrences: &mut [u32],
-) -> Answer
+) -> Result<Answer, Refusal>
     ensures { Judged (handed c table.now kind limit order.now store.old scratch.old log.old occurrences.old) result store.new scratch.new log.new occurrences.new }
 {
-    let outset = set_out(
+    let start = set_out(
         c,
         table,
         kind,
@@ -41,20 +43,22 @@ pub fn judge(
         store,
         scratch,
         occurrences,
-    );
-    if !outset.begun {
-        return stopped(outset.number);
-    }
+    )?;
+    let Some(held) = start else {
+        return Ok(Answer::OutOfRoom { step: 0, terms: 0 });
+    };
+    let block = SoundBlock {
+        block: Block { counts: c, table },
+    };
     let ran = run(
-        c,
-        table,
+        &block,
         limit as usize,
         order,
-        outset.held,
+        held,
         store,
         scratch,
         log,
         occurrences,
     );
-    closed(c, table, kind, ran, store)
+    Ok(closed(&block, kind, order.len(), ran, store))
 }

@@ -8,21 +8,19 @@ ghost use Rattle.judge.specs.Running.{Running, Finished};
 
 use crate::log::put_record;
 use crate::turn::take_turn;
+use netlist::table::SoundBlock;
 use rules::answers::StepRecord;
-use rules::counts::Counts;
 
-// Whether every polynomial had room, the steps completed, and the terms held after them.
+// The steps completed before one that had no room for its terms, and the terms then held.
 #[derive(Clone, Copy)]
-pub struct Ran {
-    pub fits: bool,
+pub struct NoRoom {
     pub steps: usize,
     pub terms: usize,
 }
 
-// Runs the order on the `held` terms of the store, until a step has no room for its terms. Each step completed is logged.
+// Runs the order on the `held` terms of the store: the terms held after all steps. Each step completed is logged.
 pub fn run(
-    c: Counts,
-    table: &[u32],
+    block: &SoundBlock,
     limit: usize,
     order: &[u32],
     held: usize,
@@ -30,29 +28,23 @@ pub fn run(
     scratch: &mut [u64],
     log: &mut [StepRecord],
     occurrences: &mut [u32],
-) -> Ran
-    requires { Running c table.now limit held (decoded (set_width c) held store.old) store.old scratch.old occurrences.old × (every (is_gate c) order.now ≡ true) × (length order.now ≤ length log.old) }
-    ensures { Finished c table.now limit order.now (trail (2 ^ c.o) c table.now (decoded (set_width c) held store.old) order.now) store.old scratch.old log.old occurrences.old result store.new scratch.new log.new occurrences.new }
+) -> Result<usize, NoRoom>
+    requires { let b = block.now.block in let p = decoded (set_width b.counts) held store.old in
+        Running b.counts b.table.now limit held p store.old scratch.old occurrences.old × (every (is_gate b.counts) order.now ≡ true) × (length order.now ≤ length log.old) }
+    ensures { let b = block.now.block in let p = decoded (set_width b.counts) held store.old in
+        Finished b.counts b.table.now limit order.now (trail (2 ^ b.counts.o) b.counts b.table.now p order.now) store.old scratch.old log.old occurrences.old result store.new scratch.new log.new occurrences.new }
 {
     let mut left = held;
-    let mut k: usize = 0;
-    while k < order.len() {
-        let v = order[k];
-        let t = take_turn(c, table, v, limit, left, store, scratch, occurrences);
-        if !t.fits {
-            return Ran {
-                fits: false,
+    for (k, v) in order.iter().enumerate() {
+        let turn = take_turn(block, *v, limit, left, store, scratch, occurrences);
+        let Some(terms) = turn.held else {
+            return Err(NoRoom {
                 steps: k,
                 terms: left,
-            };
-        }
-        put_record(log, k, t.gate, t.terms as u32, t.made);
-        left = t.terms;
-        k += 1;
+            });
+        };
+        put_record(log, k, *v, terms as u32, turn.made);
+        left = terms;
     }
-    Ran {
-        fits: true,
-        steps: k,
-        terms: left,
-    }
+    Ok(left)
 }

@@ -6,16 +6,13 @@ ghost use Rattle.rules.specs.Steps as rule;
 ghost use Rattle.words.specs.Stored.{decoded};
 ghost use Rattle.judge.specs.Running.{Running, Turned};
 
-use netlist::table::record_at;
+use netlist::table::SoundBlock;
 use poly::step::step;
-use rules::counts::Counts;
 
-// Whether the polynomial after the step has room, the gate of the step, the terms then held, and the terms before gathering.
+// The terms held after a step, where they have room, and those that it made before they were gathered.
 #[derive(Clone, Copy)]
 pub struct Turn {
-    pub fits: bool,
-    pub gate: u32,
-    pub terms: usize,
+    pub held: Option<usize>,
     pub made: u32,
 }
 
@@ -27,11 +24,10 @@ fn raw(held: usize, with: u32, each: u32) -> u32
     held as u32 - with + each * with
 }
 
-// The step of gate v on the `held` terms of the store, and its numbers. Without room for the terms after it, store, terms and numbers stay
-// as they were.
+// The step of gate v on the `held` terms of the store, and its numbers. Without room for the terms after it, store and numbers stay as they
+// were.
 pub fn take_turn(
-    c: Counts,
-    table: &[u32],
+    block: &SoundBlock,
     v: u32,
     limit: usize,
     held: usize,
@@ -39,13 +35,15 @@ pub fn take_turn(
     scratch: &mut [u64],
     occurrences: &mut [u32],
 ) -> Turn
-    requires { Running c table.now limit held (decoded (set_width c) held store.old) store.old scratch.old occurrences.old
-        × (c.i < v) × (v ≤ c.m) }
-    ensures { Turned c limit held v (rule.made (2 ^ c.o) c table.now v (decoded (set_width c) held store.old))
-        (rule.step (2 ^ c.o) c table.now v (decoded (set_width c) held store.old)) store.old scratch.old occurrences.old result store.new scratch.new occurrences.new }
+    requires { let b = block.now.block in let p = decoded (set_width b.counts) held store.old in
+        Running b.counts b.table.now limit held p store.old scratch.old occurrences.old × (b.counts.i < v) × (v ≤ b.counts.m) }
+    ensures { let b = block.now.block in let p = decoded (set_width b.counts) held store.old in
+        Turned b.counts limit (rule.made (2 ^ b.counts.o) b.counts b.table.now v p) (rule.step (2 ^ b.counts.o) b.counts b.table.now v p)
+        store.old scratch.old occurrences.old result store.new scratch.new occurrences.new }
 {
+    let c = block.block.counts;
     let w = (c.m / 64 + 1) as usize;
-    let r = record_at(c, table, v);
+    let r = block.block.record_at(v);
     let with = occurrences[v as usize];
     let end = c.m as usize + 1;
     let after = step(
@@ -59,19 +57,8 @@ pub fn take_turn(
         scratch,
         &mut occurrences[..end],
     );
-    let made = raw(held, with, after.each);
-    if after.held > limit {
-        return Turn {
-            fits: false,
-            gate: v,
-            terms: held,
-            made,
-        };
-    }
     Turn {
-        fits: true,
-        gate: v,
-        terms: after.held,
-        made,
+        held: after.held,
+        made: raw(held, with, after.each),
     }
 }

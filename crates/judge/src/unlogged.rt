@@ -4,6 +4,7 @@ ghost use Rattle.judge.specs.Deciding.{handed, Unlogged, blank_log};
 use crate::judge;
 use rules::answers::{Answer, StepRecord};
 use rules::counts::Counts;
+use rules::refusals::Refusal;
 
 // The answer of the judge, with a log that is long enough for the variables of the desk program.
 pub fn judge_unlogged(
@@ -15,7 +16,7 @@ pub fn judge_unlogged(
     store: &mut [u64],
     scratch: &mut [u64],
     occurrences: &mut [u32],
-) -> Answer
+) -> Result<Answer, Refusal>
     ensures { Unlogged (handed c table.now kind limit order.now store.old scratch.old blank_log occurrences.old) result store.new scratch.new occurrences.new }
 {
     let mut log = [StepRecord {

@@ -1,4 +1,4 @@
--- `take_turn` is the step of the engine, by the record that the table has for the gate. Assumes nothing.
+-- The step of the engine, by the record that the table has for the gate.
 use mathlib.Core.Path.{refl, sym}
 use Prim.Native.Nat.{◌≤◌}
 use native.Mathlib.Omega.{arith}
@@ -9,18 +9,18 @@ use Rattle.rules.proofs.Occurring.{occurring_most}
 use Rattle.words.specs.Stored.{decoded}
 use Rattle.words.proofs.Stored.{length_decoded}
 use Rattle.judge.proofs.Numbers.{with_room, with_entry, turned_numbers}
-use Rattle.judge.proofs.Held.{ready, numberable, stepped_to, step_numbers, turned_fits, turned_full}
+use Rattle.judge.proofs.Held.{ready, numberable, stepped_to, step_numbers, turned}
 use Rattle.judge.proofs.Peak.{each_most, step_peak}
 use Rattle.judge.proofs.turn.take_turn.Goals as goal
 
 pub bounds-occurrences-v : goal.bounds-occurrences-v
-bounds-occurrences-v c = omega (arith, with_room c.args.c _ c.args.occurrences.now c.requires.0.numbers, c.requires.2)
+bounds-occurrences-v c = omega (arith, with_room c.args.block.now.block.counts _ c.args.occurrences.now c.requires.0.numbers, c.requires.2)
 
 pub slice_bounds-step-end : goal.slice_bounds-step-end
-slice_bounds-step-end c = with_room c.args.c _ c.args.occurrences.now c.requires.0.numbers
+slice_bounds-step-end c = with_room c.args.block.now.block.counts _ c.args.occurrences.now c.requires.0.numbers
 
 pub slice_bounds-step-end-2 : goal.slice_bounds-step-end-2
-slice_bounds-step-end-2 c = sym (length-take-le _ _ (with_room c.args.c _ c.args.occurrences.now c.requires.0.numbers))
+slice_bounds-step-end-2 c = sym (length-take-le _ _ (with_room c.args.block.now.block.counts _ c.args.occurrences.now c.requires.0.numbers))
 
 pub step-after-requires : goal.step-after-requires
 step-after-requires c =
@@ -28,34 +28,25 @@ step-after-requires c =
     let e = c.record_at-r.ensures in
     (ready p.0 p.1 p.2 e, numberable p.0 p.1 p.2 e)
 
-pub raw-made-requires : goal.raw-made-requires
-raw-made-requires c =
+pub raw-requires : goal.raw-requires
+raw-requires c =
     let a = c.args in
-    let p = decoded (set_width a.c) a.held a.store.now in
-    let entry = with_entry a.c p a.occurrences.now c.requires.0.numbers a.v c.requires.2 in (
-      omega (arith, entry, occurring_most a.v p, length_decoded (set_width a.c) a.held a.store.now),
+    let p = decoded (set_width a.block.now.block.counts) a.held a.store.now in
+    let entry = with_entry a.block.now.block.counts p a.occurrences.now c.requires.0.numbers a.v c.requires.2 in (
+      omega (arith, entry, occurring_most a.v p, length_decoded (set_width a.block.now.block.counts) a.held a.store.now),
       omega (arith, c.requires.0.few, c.requires.0.taken),
       each_most (omega (arith, c.requires.1)) c.step-after.ensures.2,
     )
-
-pub returns-then-after-limit : goal.returns-then-after-limit
-unfolding set_width
-returns-then-after-limit c =
-    let a = c.args in
-    let p = decoded (set_width a.c) a.held a.store.now in
-    let s = stepped_to a.c a.table.now a.v p c.record_at-r.ensures c.step-after.ensures.0 in
-    let n = step_numbers a.c a.table.now a.v p c.record_at-r.ensures c.step-after.ensures.1 in
-    let few : length p ≤ a.limit = rw length_decoded c.requires.0.few in
-    let peak = step_peak c.requires.0 c.requires.1 c.requires.2 c.record_at-r.ensures c.step-after.ensures.2 c.raw-made.ensures in
-    turned_full s _ refl peak (turned_numbers a.c p _ a.limit a.occurrences.now _ c.requires.0.numbers few (omega (arith, c.requires.0.taken)) (λ u. (c.type_inv.occurrences u).fits) n) c.if-after-limit.true refl refl
 
 pub returns : goal.returns
 unfolding set_width
 returns c =
     let a = c.args in
-    let p = decoded (set_width a.c) a.held a.store.now in
-    let s = stepped_to a.c a.table.now a.v p c.record_at-r.ensures c.step-after.ensures.0 in
-    let n = step_numbers a.c a.table.now a.v p c.record_at-r.ensures c.step-after.ensures.1 in
+    let b = a.block.now.block in
+    let p = decoded (set_width b.counts) a.held a.store.now in
+    let s = stepped_to b.counts b.table.now a.v p c.record_at-r.ensures c.step-after.ensures.0 in
+    let n = step_numbers b.counts b.table.now a.v p c.record_at-r.ensures c.step-after.ensures.1 in
     let few : length p ≤ a.limit = rw length_decoded c.requires.0.few in
-    let peak = step_peak c.requires.0 c.requires.1 c.requires.2 c.record_at-r.ensures c.step-after.ensures.2 c.raw-made.ensures in
-    turned_fits s _ refl peak (turned_numbers a.c p _ a.limit a.occurrences.now _ c.requires.0.numbers few (omega (arith, c.requires.0.taken)) (λ u. (c.type_inv.occurrences u).fits) n) c.if-after-limit.false refl refl
+    let peak = step_peak c.requires.0 c.requires.1 c.requires.2 c.record_at-r.ensures c.step-after.ensures.2 c.raw.ensures in
+    turned s _ refl peak
+    (turned_numbers b.counts p _ a.limit a.occurrences.now _ c.requires.0.numbers few (omega (arith, c.requires.0.taken)) (λ u. (c.type_inv.occurrences u).fits) n)

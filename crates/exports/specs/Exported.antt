@@ -1,10 +1,9 @@
 -- A host gets one number, and the values of an answer in a buffer that it lends.
-use Rattle.std.specs.Prelude.{◌≡◌, cond, List, ◌++◌, ℕ, zero, suc, ◌+◌, ◌≤◌, ltb, length, drop}
-use Rattle.rules.specs.Says.{Says, refuses, answers, says}
+use Rattle.std.specs.Prelude.{◌≡◌, cond, List, ◌++◌, ℕ, zero, suc, ◌+◌, ltb, length, drop}
+use Rattle.rules.specs.Says.{Says, refuses, answers}
 use Rattle.rules.specs.Values.{evaluating}
 use Rattle.rules.specs.Reading.{reading, reading_says, table_after}
 use Rattle.rules.specs.Judging.{Inputs, judging, store_after, scratch_after, log_after, occurrences_after}
-use Rattle.rules.specs.declared.answers.Answer.{Answer}
 use Rattle.rules.specs.declared.answers.StepRecord.{StepRecord}
 use Rattle.rules.specs.declared.counts.Counts.{Counts}
 use Rattle.rules.specs.declared.records.RecordKind.{RecordKind}
@@ -64,7 +63,3 @@ pub record JudgeGiven (x : Inputs) (answer : List ℕ) (r : ℕ) (store scratch 
   pub log_records : log ≡ cond (ltb (length answer) 7) x.log (log_after x)
   pub occurrence_words : occurrences ≡ cond (ltb (length answer) 7) x.occurrences (occurrences_after x)
   pub answer_words : answer_exit ≡ given (judge_said x answer) answer
-
--- a refusal's number is one that the judge gives
-abbrev pub Refusing : Answer → Type 0
-Refusing a = (k : ℕ) → says a ≡ refuses k → k ≤ 12

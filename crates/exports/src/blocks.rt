@@ -5,7 +5,7 @@ ghost use Rattle.exports.specs.Exported.{records_named, named};
 use rules::counts::Counts;
 use rules::records::RecordKind;
 
-// The kind of record that a host names.
+// The kind of record that a host names: a number, in C.
 #[tactic(auto, unfolding(crate::specs::Exported::records_named))]
 fn kind_of_record(cells: u32) -> RecordKind
     ensures { result ≡ records_named cells }

@@ -1,7 +1,8 @@
 // Evaluating one operand pair.
 ghost use Rattle.exports.specs.Exported.{named, EvaluateGiven};
 
-use rules::answers::Word;
+use crate::giving::{put, refused};
+use rules::refusals::Refusal;
 
 // 0 and the word that the outputs show for the operands x and y, or 100 plus the refusal; 112 where there is no room for a word.
 #[unsafe(no_mangle)]
@@ -20,13 +21,13 @@ pub extern "C" fn hraskell_evaluate(
     ensures { EvaluateGiven (named m i l o a cells) table.now x y word.old result word.new }
 {
     if word.len() < 1 {
-        return 112;
+        return refused(Refusal::ShortBuffer);
     }
     let counts = crate::blocks::counts(m, i, l, o, a, cells);
     match netlist::evaluate(counts, table, x, y) {
-        Word::Refused(number) => 100 + number,
-        Word::Is(shown) => {
-            word[0] = shown;
+        Err(refusal) => refused(refusal),
+        Ok(shown) => {
+            put(&[shown], word);
             0
         }
     }

@@ -1,60 +1,29 @@
 // Judging a block.
-ghost use Rattle.std.specs.Prelude.{◌≡◌, ◌∷◌, [], ◌++◌, ◌≤◌, length, drop};
-ghost use Rattle.rules.specs.Says.{says};
+ghost use Rattle.std.specs.Prelude.{◌≡◌, ◌≤◌, length};
+ghost use Rattle.rules.specs.Says.{answer_says};
 ghost use Rattle.judge.specs.Deciding.{handed};
-ghost use Rattle.exports.specs.Exported.{number_of, given, named, Refusing, JudgeGiven};
+ghost use Rattle.exports.specs.Exported.{number_of, given, named, JudgeGiven};
 
+use crate::giving::{put, refused};
 use rules::answers::{Answer, StepRecord};
+use rules::refusals::Refusal;
 
-// Writes two numbers in front.
-fn put_two(x: u64, y: u64, answer: &mut [u64])
-    requires { 7 ≤ length answer.old }
-    ensures { answer.new ≡ (x ∷ y ∷ []) ++ drop 2 answer.old }
-{
-    answer[0] = x;
-    answer[1] = y;
-}
-
-// Writes what D also gives in front: the steps, the terms, the operands and the two words.
-fn put_seven(
-    steps: u64,
-    terms: u64,
-    a: u64,
-    b: u64,
-    c: u64,
-    got: u64,
-    wanted: u64,
-    answer: &mut [u64],
-)
-    requires { 7 ≤ length answer.old }
-    ensures { answer.new ≡ (steps ∷ terms ∷ a ∷ b ∷ c ∷ got ∷ wanted ∷ []) ++ drop 7 answer.old }
-{
-    answer[0] = steps;
-    answer[1] = terms;
-    answer[2] = a;
-    answer[3] = b;
-    answer[4] = c;
-    answer[5] = got;
-    answer[6] = wanted;
-}
-
-// Writes the values of what was said, and gives its number.
+// Writes the values of an answer, and gives its number.
 fn put_answer(said: Answer, answer: &mut [u64]) -> u32
-    requires { (7 ≤ length answer.old) × Refusing said }
-    ensures { (result ≡ number_of (says said)) × (answer.new ≡ given (says said) answer.old) }
+    requires { 7 ≤ length answer.old }
+    ensures { (result ≡ number_of (answer_says said)) × (answer.new ≡ given (answer_says said) answer.old) }
 {
     match said {
-        Answer::Refused(number) => 100 + number,
         Answer::Equal { steps, terms } => {
-            put_two(steps as u64, terms as u64, answer);
+            put(&[steps as u64, terms as u64], answer);
             0
         }
         Answer::OutOfRoom { step, terms } => {
-            put_two(step as u64, terms as u64, answer);
+            put(&[step as u64, terms as u64], answer);
             2
         }
         Answer::Unfinished { steps, terms } => {
-            put_two(steps as u64, terms as u64, answer);
+            put(&[steps as u64, terms as u64], answer);
             3
         }
         Answer::Differs {
@@ -66,7 +35,7 @@ fn put_answer(said: Answer, answer: &mut [u64]) -> u32
             got,
             wanted,
         } => {
-            put_seven(steps as u64, terms as u64, a, b, c, got, wanted, answer);
+            put(&[steps as u64, terms as u64, a, b, c, got, wanted], answer);
             1
         }
     }
@@ -95,10 +64,10 @@ pub extern "C" fn hraskell_judge(
     ensures { JudgeGiven (handed (named m i l o a cells) table.now kind limit order.now store.old scratch.old log.old occurrences.old) answer.old result store.new scratch.new log.new occurrences.new answer.new }
 {
     if answer.len() < 7 {
-        return 112;
+        return refused(Refusal::ShortBuffer);
     }
     let counts = crate::blocks::counts(m, i, l, o, a, cells);
-    let said = judge::judge(
+    let judged = judge::judge(
         counts,
         table,
         kind,
@@ -109,5 +78,8 @@ pub extern "C" fn hraskell_judge(
         log,
         occurrences,
     );
-    put_answer(said, answer)
+    match judged {
+        Ok(said) => put_answer(said, answer),
+        Err(refusal) => refused(refusal),
+    }
 }

@@ -1,71 +1,41 @@
 -- The kind line as the code reads it, and what the desk says by it.
 use mathlib.Core.Path.{◌≡◌, refl, ap, sym, ◌∙◌}
-use mathlib.Core.Bool.{Bool, true, false, cond, ◌&&◌}
+use mathlib.Core.Bool.{Bool, true, false, cond}
 use mathlib.Core.List.{List, [], ◌∷◌}
 use Prim.Native.Nat.{ℕ, zero, suc, ◌+◌, ◌<◌, ◌≤◌}
 use native.Mathlib.Omega.{arith}
 use lib.Dec.{eqb}
-use lib.ListN.{length, get_or, length-append}
-use borrow.Author.Tests.{lt-ltb, le-ltb, ne_eqb}
+use Rattle.std.specs.Prelude.{nat_eq, ltb, Option, Some, None, MatchOption, Ok, Err, ok_or}
+use Rattle.rules.specs.declared.refusals.Refusal.{Refusal}
+use Rattle.rules.specs.Product.{kind_of, adds}
+use lib.Pointwise.{pointwise}
+use lib.ListN.{length, take, length-append}
+use borrow.Author.Tests.{lt-ltb, le-ltb, eq-eqb, ne_eqb, eqb-true, false-eqb, ltb-true, ltb-false}
 use Rattle.rules.specs.Limits.{most_desk_bytes}
-use Rattle.rules.specs.Text.{line_feed}
 use Rattle.rules.specs.Says.{refuses}
 use Rattle.rules.specs.Reading.{reading}
-use Rattle.rules.specs.Desk.{desk_table, desk_read, kind_line, begins, asked_below, kind_asked, desk_kind, desk_lines, desk_long, desk_says}
+use Rattle.rules.specs.Desk.{desk_table, desk_read, kind_line, begins, kind_asked, desk_kind, desk_lines, desk_long, desk_says}
 use Rattle.demands.proofs.KindLines.{text_behind, asked, asked_most}
-use Rattle.desk.specs.Kind.{kind_named}
+use Rattle.desk.specs.Kind.{kind_or_none}
 
--- both parts of a test, of which the second does not hold
-neither_holds : (a : Bool) → (a && false) ≡ false
-neither_holds true = refl
-neither_holds false = refl
-
--- an input that is too short for a kind line
-pub asked_short : (input : List ℕ) → length input < 2 → 5 ≡ kind_asked input
-unfolding kind_asked asked_below kind_line begins
-asked_short [] h = refl
-asked_short (x ∷ []) h = simp neither_holds
-asked_short (x ∷ end ∷ text) h = absurd (omega arith)
-
--- a first line of one byte
-pub asked_byte : (input : List ℕ) → 2 ≤ length input → get_or input 1 0 ≡ line_feed → kind_named (get_or input 0 0) ≡ kind_asked input
-unfolding kind_asked asked_below kind_line begins kind_named
-asked_byte [] h e = absurd (omega arith)
-asked_byte (x ∷ []) h e = absurd (omega arith)
-asked_byte (x ∷ end ∷ text) h e = rw e (go (eqb x 109) (eqb x 116) (eqb x 115) (eqb x 117))
+-- two numbers are compared either way round
+eqb_swap : (x y : ℕ) → eqb x y ≡ eqb y x
+eqb_swap x y = go (eqb x y) refl
   where
-    go : (m t s u : Bool)
-        → ◌≡◌ {A = ℕ} (cond m 3 (cond t 2 (cond s 1 (cond u 0 5)))) (cond (m && false) 4 (cond (m && true) 3 (cond (t && true) 2 (cond (s && true) 1 (cond (u && true) 0 5)))))
-    go true t s u = refl
-    go false true s u = refl
-    go false false true u = refl
-    go false false false true = refl
-    go false false false false = refl
+    go : (t : Bool) → eqb x y ≡ t → t ≡ eqb y x
+    go true e = sym (eq-eqb y x (sym (eqb-true x y e)))
+    go false e = sym (ne_eqb y x (λ d. false-eqb x y (sym e) (sym d)))
 
--- two bytes that are no line
-pub asked_two : (input : List ℕ) → length input < 3 → (get_or input 1 0 ≡ line_feed → ⊥) → 2 ≤ length input → 5 ≡ kind_asked input
-unfolding kind_asked asked_below kind_line begins
-asked_two [] l n h = absurd (omega arith)
-asked_two (x ∷ []) l n h = absurd (omega arith)
-asked_two (x ∷ y ∷ []) l n h = rw (ne_eqb y line_feed n) (simp neither_holds)
-asked_two (x ∷ y ∷ z ∷ text) l n h = absurd (omega arith)
+-- a slice starts with what its list begins with
+pub starts_begins : (list part : List ℕ) → pointwise nat_eq part (take (length part) list) ≡ begins part list
+unfolding begins
+starts_begins list [] = refl
+starts_begins [] (x ∷ part) = refl
+starts_begins (y ∷ list) (x ∷ part) = rw (starts_begins list part, eqb_swap x y)
 
--- a first line of more than one byte, or of none: `ms` alone asks for a kind
-pub asked_more : (input : List ℕ) → 3 ≤ length input → (get_or input 1 0 ≡ line_feed → ⊥)
-    → cond ((eqb (get_or input 0 0) 109 && eqb (get_or input 1 0) 115) && eqb (get_or input 2 0) line_feed) 4 5 ≡ kind_asked input
-unfolding kind_asked asked_below kind_line begins
-asked_more [] h n = absurd (omega arith)
-asked_more (x ∷ []) h n = absurd (omega arith)
-asked_more (x ∷ y ∷ []) h n = absurd (omega arith)
-asked_more (x ∷ y ∷ z ∷ text) h n =
-    rw (ne_eqb y line_feed n) (go (eqb x 109) (eqb y 115) (eqb z line_feed) (eqb x 116) (eqb x 115) (eqb x 117))
-  where
-    go : (a b c t s u : Bool)
-        → ◌≡◌ {A = ℕ} (cond ((a && b) && c) 4 5) (cond (a && (b && (c && true))) 4 (cond (a && false) 3 (cond (t && false) 2 (cond (s && false) 1 (cond (u && false) 0 5)))))
-    go true true true t s u = refl
-    go true true false t s u = simp neither_holds
-    go true false c t s u = simp neither_holds
-    go false b c t s u = simp neither_holds
+-- so a test of the first bytes is one of the rule
+pub begun : (list part : List ℕ) {r t : Bool} → r ≡ pointwise nat_eq part (take (length part) list) → r ≡ t → begins part list ≡ t
+begun list part e h = sym (starts_begins list part) ∙ sym e ∙ h
 
 -- the bytes of a kind's line
 pub short_line : (kind : ℕ) → kind < 4 → 2 ≡ length (kind_line kind)
@@ -93,6 +63,40 @@ says_long input h = rw (lt-ltb most_desk_bytes (length input) h)
 short_lines : (input : List ℕ) → length input ≤ most_desk_bytes → desk_says input ≡ desk_lines input
 unfolding desk_says desk_long
 short_lines input h = rw (le-ltb most_desk_bytes (length input) h)
+
+-- where no kind is found, none is asked for
+pub asked_none : (k : ℕ) → k ≤ 5 → None ≡ kind_or_none k → k ≡ 5
+unfolding kind_or_none
+asked_none k h e = go (ltb k 5) refl e
+  where
+    go : (t : Bool) → ltb k 5 ≡ t → None ≡ cond t (Some k) None → k ≡ 5
+    go true l e = absurd (cc)
+    go false l e = omega (arith, ltb-false k 5 l)
+
+-- a kind that is found is the one asked for
+pub asked_some : (k kind : ℕ) → Some kind ≡ kind_or_none k → (kind ≡ k) × (k ≡ 5 → ⊥)
+unfolding kind_or_none
+asked_some k kind e = go (ltb k 5) refl e
+  where
+    go : (t : Bool) → ltb k 5 ≡ t → Some kind ≡ cond t (Some k) None → (kind ≡ k) × (k ≡ 5 → ⊥)
+    go true l e = (cc, λ same. omega (arith, ltb-true k 5 l))
+    go false l e = absurd (cc)
+
+-- a kind taken out of an option is the one that is there, and where none is taken, none is there
+pub kind_there : (o : Option ℕ) (refusal : Refusal) (k : ℕ) → ok_or o refusal ≡ Ok k → o ≡ Some k
+kind_there (Some k) refusal j e = cc
+kind_there None refusal j e = absurd (cc)
+
+pub kind_missing : (o : Option ℕ) (refusal r : Refusal) → ok_or o refusal ≡ Err r → (o ≡ None) × (refusal ≡ r)
+kind_missing (Some k) refusal r e = absurd (cc)
+kind_missing None refusal r e = (refl, cc)
+
+-- c is added where the kind that is found says so, and not where none is found
+pub adding_known : (input : List ℕ) (kind : Option ℕ) (r : Bool) → kind ≡ kind_or_none (kind_asked input)
+    → MatchOption kind (r ≡ false) (λ k. r ≡ adds (kind_of k)) → r ≡ adds (kind_of (kind_asked input))
+unfolding adds kind_of
+adding_known input (Some k) r e h = rw (asked_some (kind_asked input) k e).0 at h
+adding_known input None r e h = rw (asked_none (kind_asked input) (asked_most input) e) h
 
 -- a kind that is asked for has a line
 pub asked_line : (input : List ℕ) → (kind_asked input ≡ 5 → ⊥) → length (kind_line (kind_asked input)) ≤ length input

@@ -9,10 +9,10 @@ use borrow.Author.Tests.{lt-ltb, le-ltb}
 use Rattle.rules.specs.Limits.{most_desk_variables}
 use Rattle.rules.specs.Netlist.{record_words, needed}
 use Rattle.rules.specs.Reading.{Netlist, netlist, refused, reading, reading_says, ReadAs}
-use Rattle.rules.specs.Says.{refuses, text_says, text_records}
+use Rattle.std.specs.Prelude.{Result, Ok, Err}
+use Rattle.rules.specs.Says.{refuses, refusal_number, text_records}
 use Rattle.rules.specs.Desk.{desk_table, desk_judging, desk_sized, desk_read}
-use Rattle.rules.specs.declared.answers.Text.{Text}
-use Rattle.rules.specs.declared.answers.Text.TheVariants.{Read, Refused}
+use Rattle.rules.specs.declared.refusals.Refusal.{Refusal}
 use Rattle.rules.specs.declared.counts.Counts.{Counts}
 use Rattle.rules.specs.declared.records.RecordKind.TheVariants.{Gates}
 use Rattle.rules.proofs.Sound.{RightCounts, not_wrong}
@@ -28,13 +28,13 @@ blank_words : length blank_table ≡ desk_table
 blank_words = length-replicate {A = ℕ} desk_table 0
 
 -- a text that is refused: the desk says so
-pub refused_said : (kind k : ℕ) (text exit : List ℕ) (r : Text) → ReadAs text blank_table r exit → r ≡ Refused k
-    → refuses k ≡ desk_read kind (reading desk_table text)
-unfolding text_says reading_says desk_read
-refused_said kind k text exit r h e = go (reading desk_table text) (rw (e, blank_words) at h.said)
+pub refused_said : (kind : ℕ) (refusal : Refusal) (text exit : List ℕ) (r : Result Counts Refusal) → ReadAs text blank_table r exit → r ≡ Err refusal
+    → refuses (refusal_number refusal) ≡ desk_read kind (reading desk_table text)
+unfolding reading_says desk_read
+refused_said kind refusal text exit r h e = go (reading desk_table text) (rw (e, blank_words) at h.said)
   where
-    go : (n : Netlist) → refuses k ≡ reading_says n → refuses k ≡ desk_read kind n
-    go (netlist c words) e = apart 0 k _ (sym e)
+    go : (n : Netlist) → refuses (refusal_number refusal) ≡ reading_says n → refuses (refusal_number refusal) ≡ desk_read kind n
+    go (netlist c words) e = apart 0 (refusal_number refusal) _ (sym e)
     go (refused j) e = e
 
 -- a text that is read: its counts are within their limits and of AND gates, and the words that they need stand in front of the table
@@ -44,8 +44,8 @@ pub record Taken (text : List ℕ) (c : Counts) (exit : List ℕ) : Type 0 where
   pub room : needed c ≤ length exit
   pub is_read : reading desk_table text ≡ netlist c (take (needed c) exit)
 
-pub read_taken : (text exit : List ℕ) (c : Counts) (r : Text) → ReadAs text blank_table r exit → r ≡ Read c → Taken text c exit
-unfolding text_says text_records reading_says
+pub read_taken : (text exit : List ℕ) (c : Counts) (r : Result Counts Refusal) → ReadAs text blank_table r exit → r ≡ Ok c → Taken text c exit
+unfolding text_records reading_says
 read_taken text exit c r h e = go (reading desk_table text) refl (said desk_table text)
   where
     go : (n : Netlist) → reading desk_table text ≡ n → Outcome desk_table text n → Taken text c exit

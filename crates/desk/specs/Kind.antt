@@ -1,6 +1,6 @@
--- What is promised of a kind line of one letter.
-use Rattle.std.specs.Prelude.{cond, ℕ, eqb}
+-- What is promised of the kind that is asked for.
+use Rattle.std.specs.Prelude.{cond, ltb, ℕ, Option, Some, None}
 
--- the number of the kind whose line has this one letter, `m`, `t`, `s` or `u`; 5 is no kind
-unfoldable pub kind_named : ℕ → ℕ
-kind_named x = cond (eqb x 109) 3 (cond (eqb x 116) 2 (cond (eqb x 115) 1 (cond (eqb x 117) 0 5)))
+-- the number of a kind, or none: 5 is no kind
+unfoldable pub kind_or_none : ℕ → Option ℕ
+kind_or_none k = cond (ltb k 5) (Some k) None

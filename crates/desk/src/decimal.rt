@@ -35,10 +35,8 @@ pub fn put_numbers(bytes: &mut [u8], at: usize, numbers: &[u64]) -> usize
     ensures short { result ≤ at + 21 * length numbers.now }
 {
     let mut end = at;
-    let mut k = 0;
-    while k < numbers.len() {
-        end = put_number(bytes, end, numbers[k]);
-        k += 1;
+    for x in numbers {
+        end = put_number(bytes, end, *x);
     }
     end
 }

@@ -1,12 +1,13 @@
 // Answers as lines.
 ghost use Rattle.std.specs.Prelude.{◌≤◌, ◌∷◌, [], ◌++◌, length};
 ghost use Rattle.rules.specs.Text.{line_feed};
-ghost use Rattle.rules.specs.Says.{answers, says};
+ghost use Rattle.rules.specs.Says.{answers, answer_says, says};
 ghost use Rattle.rules.specs.Desk.{spaced, told};
 ghost use Rattle.desk.specs.Line.{Holds, Formatted};
 
 use crate::decimal::put_numbers;
 use rules::answers::{Answer, Line};
+use rules::refusals::Refusal;
 
 // The line of a letter and its numbers.
 pub fn line_of(letter: u8, numbers: &[u64]) -> Line
@@ -35,22 +36,17 @@ fn differs_line(
     ensures { Formatted (told adding (answers 1 (steps ∷ terms ∷ a ∷ b ∷ c ∷ got ∷ wanted ∷ []))) result }
 {
     if adding {
-        let numbers = [steps, terms, a, b, c, got, wanted];
-        return line_of(b'D', &numbers);
+        return line_of(b'D', &[steps, terms, a, b, c, got, wanted]);
     }
-    let numbers = [steps, terms, a, b, got, wanted];
-    line_of(b'D', &numbers)
+    line_of(b'D', &[steps, terms, a, b, got, wanted])
 }
 
-// The line that the desk program prints of an answer, with c only where it is added.
-pub fn answer_line(answer: Answer, adding: bool) -> Line
-    ensures { Formatted (told adding (says answer)) result }
+// The line of an answer, with c only where it is added.
+fn value_line(answer: Answer, adding: bool) -> Line
+    ensures { Formatted (told adding (answer_says answer)) result }
 {
     match answer {
-        Answer::Equal { steps, terms } => {
-            let numbers = [steps as u64, terms as u64];
-            line_of(b'E', &numbers)
-        }
+        Answer::Equal { steps, terms } => line_of(b'E', &[steps as u64, terms as u64]),
         Answer::Differs {
             steps,
             terms,
@@ -60,18 +56,17 @@ pub fn answer_line(answer: Answer, adding: bool) -> Line
             got,
             wanted,
         } => differs_line(steps as u64, terms as u64, a, b, c, got, wanted, adding),
-        Answer::OutOfRoom { step, terms } => {
-            let numbers = [step as u64, terms as u64];
-            line_of(b'R', &numbers)
-        }
-        Answer::Unfinished { steps, terms } => {
-            let numbers = [steps as u64, terms as u64];
-            line_of(b'U', &numbers)
-        }
-        Answer::Refused(number) => {
-            let number = number as u64;
-            let numbers = [number];
-            line_of(b'X', &numbers)
-        }
+        Answer::OutOfRoom { step, terms } => line_of(b'R', &[step as u64, terms as u64]),
+        Answer::Unfinished { steps, terms } => line_of(b'U', &[steps as u64, terms as u64]),
+    }
+}
+
+// The line that the desk program prints of what is said, with c only where it is added.
+pub fn answer_line(said: Result<Answer, Refusal>, adding: bool) -> Line
+    ensures { Formatted (told adding (says said)) result }
+{
+    match said {
+        Ok(answer) => value_line(answer, adding),
+        Err(refusal) => line_of(b'X', &[u64::from(u32::from(refusal))]),
     }
 }

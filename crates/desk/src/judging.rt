@@ -8,13 +8,14 @@ ghost use Rattle.rules.specs.declared.records.RecordKind.TheVariants.{Gates};
 
 use crate::order::put_falling;
 use judge::unlogged::judge_unlogged;
-use rules::answers::{Answer, Text};
+use rules::answers::Answer;
 use rules::counts::Counts;
 use rules::limits::Limits;
+use rules::refusals::Refusal;
 
 // What is said of a netlist of AND gates with M at most 127. A term of it has at most three words: the store has room for 512 of them, scratch
 // for four times as many. The occurrences are M + 1 words, at most 128.
-pub fn judged(kind: u32, counts: Counts, table: &[u32]) -> Answer
+pub fn judged(kind: u32, counts: Counts, table: &[u32]) -> Result<Answer, Refusal>
     requires { (counts.a ≤ counts.m) × (counts.m ≤ most_desk_variables) × (counts.records ≡ Gates) }
     ensures { says result ≡ desk_judging kind counts table.now }
 {
@@ -36,18 +37,14 @@ pub fn judged(kind: u32, counts: Counts, table: &[u32]) -> Answer
 }
 
 // What is said of a netlist text: its own refusals come first, then M above 127.
-pub fn read_and_judged(kind: u32, text: &[u8]) -> Answer
+pub fn read_and_judged(kind: u32, text: &[u8]) -> Result<Answer, Refusal>
     ensures { says result ≡ desk_read kind (reading desk_table text.now) }
 {
     let mut table = [0u32; 2106];
-    match aiger::read(text, &mut table) {
-        Text::Refused(number) => Answer::Refused(number),
-        Text::Read(counts) => {
-            if Limits::DESK_VARIABLES_MOST < counts.m {
-                return Answer::Refused(13);
-            }
-            let words = counts.o as usize + 2 * counts.a as usize;
-            judged(kind, counts, &table[..words])
-        }
+    let counts = aiger::read(text, &mut table)?;
+    if Limits::DESK_VARIABLES_MOST < counts.m {
+        return Err(Refusal::DeskInput);
     }
+    let words = counts.o as usize + 2 * counts.a as usize;
+    judged(kind, counts, &table[..words])
 }

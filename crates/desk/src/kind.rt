@@ -1,45 +1,29 @@
 // The kind of block that the desk's first line names.
 ghost use Rattle.std.specs.Prelude.{◌≡◌, length};
-ghost use Rattle.desk.specs.Kind.{kind_named};
+ghost use Rattle.desk.specs.Kind.{kind_or_none};
 ghost use Rattle.rules.specs.Desk.{kind_line, kind_asked};
 
-// The number of the kind whose line has this one letter; 5 is no kind.
-#[tactic(auto, unfolding(crate::specs::Kind::kind_named))]
-fn kind_named(x: u8) -> u32
-    ensures { result ≡ kind_named x }
+// The number of the kind whose line an input begins with, where it begins with one.
+#[tactic(auto, using(crate::proofs::KindLine::starts_begins), unfolding(crate::specs::Kind::kind_or_none, rules::specs::Desk::kind_asked, rules::specs::Desk::asked_below, rules::specs::Desk::kind_line))]
+pub fn kind_asked(input: &[u8]) -> Option<u32>
+    ensures { result ≡ kind_or_none (kind_asked input.now) }
 {
-    if x == b'm' {
-        return 3;
+    if input.starts_with(b"ms\n") {
+        return Some(4);
     }
-    if x == b't' {
-        return 2;
+    if input.starts_with(b"m\n") {
+        return Some(3);
     }
-    if x == b's' {
-        return 1;
+    if input.starts_with(b"t\n") {
+        return Some(2);
     }
-    if x == b'u' {
-        return 0;
+    if input.starts_with(b"s\n") {
+        return Some(1);
     }
-    5
-}
-
-// The number of the kind whose line an input begins with; 5 where it begins with none.
-pub fn kind_asked(input: &[u8]) -> u32
-    ensures { result ≡ kind_asked input.now }
-{
-    if input.len() < 2 {
-        return 5;
+    if input.starts_with(b"u\n") {
+        return Some(0);
     }
-    if input[1] == b'\n' {
-        return kind_named(input[0]);
-    }
-    if input.len() < 3 {
-        return 5;
-    }
-    if (input[0] == b'm') & (input[1] == b's') & (input[2] == b'\n') {
-        return 4;
-    }
-    5
+    None
 }
 
 // The bytes of a kind's line.

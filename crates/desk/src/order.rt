@@ -11,12 +11,8 @@ pub fn put_falling(counts: Counts, order: &mut [u32]) -> usize
     ensures { Written order.old 0 (falling counts) order.new result }
 {
     let count = counts.a as usize;
-    let mut gate = counts.m;
-    let mut k = 0;
-    while k < count {
-        order[k] = gate;
-        gate -= 1;
-        k += 1;
+    for k in 0..count {
+        order[k] = counts.m - k as u32;
     }
     count
 }

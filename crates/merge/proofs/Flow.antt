@@ -1,7 +1,6 @@
 -- Laws of streams: the terms of one, the next of them, their heads, and a head that is taken.
-use Rattle.std.proofs.Common.{◌≡◌, ℕ, zero, suc, ◌+◌, ◌-◌, ◌*◌, ◌%◌, ◌<◌, ◌≤◌, Bool, true, false, cond, List, [], ◌∷◌, length, get_or, set, ℤ, pos, refl, ap, sym, ◌∙◌, add-zero, add_assoc, add-one, arith, ltb, eqb, eqb-true, ltb-true, ltb-false, lt-ltb, le-ltb, drop-cons, drop_of_length-le}
-use mathlib.Core.Logic.{⊎_elim}
-use native.Mathlib.Nat.{eq-or-lt_of_le, mod-add-mod}
+use Rattle.std.proofs.Common.{◌≡◌, ℕ, zero, suc, ◌+◌, ◌-◌, ◌*◌, ◌%◌, ◌<◌, ◌≤◌, Bool, true, false, cond, List, [], ◌∷◌, length, get_or, set, ℤ, pos, refl, ap, sym, ◌∙◌, add-zero, add_assoc, add-one, arith, eqb, eqb-true, lt-ltb, le-ltb, drop-cons, drop_of_length-le}
+use native.Mathlib.Nat.{mod-add-mod}
 use borrow.Author.Tests.{eqb-false}
 use Rattle.std.specs.Int.{from_bool}
 use lib.Seq.{get_or-set_same, get_or-set_other}
@@ -19,9 +18,10 @@ use Rattle.gates.proofs.Tables.{row_in}
 use Rattle.gates.proofs.Whole.{scaled_none}
 use Rattle.merge.proofs.Scaled.{scaled_some}
 use Rattle.merge.specs.Streams.{streams_of, held_in, multiplier_of, weight, stream}
-use Rattle.merge.specs.Heads.{count, modulus, weight_at, set_in, words_in, from, rest, Next, Loaded, rank, Took}
+use Rattle.merge.specs.Heads.{count, modulus, weight_at, set_in, from, rest, Next, Loaded, rank, Took}
 use Rattle.merge.specs.declared.streams.Gate.{Gate}
 use Rattle.merge.specs.declared.streams.Streams.{Streams}
+use Rattle.merge.specs.declared.streams.Weighted.{Weighted}
 
 -- a term without a coefficient goes
 pub keep_none : (c s : ℕ) (p : Polynomial) → c ≡ 0 → keep c s p ≡ p
@@ -46,60 +46,61 @@ held_lt g s = go (eqb g.over.z 0)
     go true = omega (arith, bit_digit s g.over.x, bit_digit s g.over.y)
     go false = omega (arith, bit_digit s g.over.x, bit_digit s g.over.y, bit_digit s g.over.z)
 
-module _ (s : Streams) (j : ℕ) where
+module _ (t : Weighted) (j : ℕ) where
   -- a term whose multiplier is 0 has no weight
-  pub weight_none : (i : ℕ) (k : ℤ) → k ≡ multiplier_of s.gate s.multipliers.now j (set_of s.terms i) → k ≡ pos 0 → weight_at s j i ≡ 0
+  pub weight_none : (i : ℕ) (k : ℤ) → k ≡ multiplier_of t.gate t.multipliers.now j (set_of t.terms i) → k ≡ pos 0 → weight_at t j i ≡ 0
   unfolding weight
   weight_none i k e z = scaled_none _ _ _ (sym e ∙ z)
 
   -- any other has some
-  pub weight_some : (i : ℕ) (k : ℤ) → i < s.terms.count → k ≡ multiplier_of s.gate s.multipliers.now j (set_of s.terms i) → (k ≡ pos 0 → ⊥) → 0 < weight_at s j i
+  pub weight_some : (i : ℕ) (k : ℤ) → i < t.terms.count → k ≡ multiplier_of t.gate t.multipliers.now j (set_of t.terms i) → (k ≡ pos 0 → ⊥) → 0 < weight_at t j i
   unfolding weight
-  weight_some i k l e n = scaled_some _ _ _ (λ z. n (e ∙ z)) (s.held.some i l) (s.held.small i l)
+  weight_some i k l e n = scaled_some _ _ _ (λ z. n (e ∙ z)) (t.held.some i l) (t.held.small i l)
 
+module _ (s : Streams) (j : ℕ) where
   -- a stream at a term that is in it
-  pub stream_some : (i : ℕ) → i < s.terms.count → 0 < weight_at s j i → from s j i ≡ (weight_at s j i, set_in s i j) ∷ from s j (suc i)
+  pub stream_some : (i : ℕ) → i < s.weighted.terms.count → 0 < weight_at s.weighted j i → from s j i ≡ (weight_at s.weighted j i, set_in s i j) ∷ from s j (suc i)
   unfolding stream
   stream_some i h l =
-      let k : i < length (terms_of s.terms) = omega (arith, length_terms s.terms) in
-      rw (drop-cons (terms_of s.terms) i (0, 0) k) (keep_some _ _ _ l)
+      let k : i < length (terms_of s.weighted.terms) = omega (arith, length_terms s.weighted.terms) in
+      rw (drop-cons (terms_of s.weighted.terms) i (0, 0) k) (keep_some _ _ _ l)
 
   -- a stream at a term that is not in it
-  stream_skip : (i : ℕ) → i < s.terms.count → weight_at s j i ≡ 0 → from s j i ≡ from s j (suc i)
+  stream_skip : (i : ℕ) → i < s.weighted.terms.count → weight_at s.weighted j i ≡ 0 → from s j i ≡ from s j (suc i)
   unfolding stream
   stream_skip i h l =
-      let k : i < length (terms_of s.terms) = omega (arith, length_terms s.terms) in
-      rw (drop-cons (terms_of s.terms) i (0, 0) k) (keep_none _ _ _ l)
+      let k : i < length (terms_of s.weighted.terms) = omega (arith, length_terms s.weighted.terms) in
+      rw (drop-cons (terms_of s.weighted.terms) i (0, 0) k) (keep_none _ _ _ l)
 
   -- a stream at its end
-  pub stream_end : (i : ℕ) → s.terms.count ≤ i → from s j i ≡ []
+  pub stream_end : (i : ℕ) → s.weighted.terms.count ≤ i → from s j i ≡ []
   unfolding stream
-  stream_end i h = rw (drop_of_length-le (terms_of s.terms) {i = i} (omega (arith, length_terms s.terms)))
+  stream_end i h = rw (drop_of_length-le (terms_of s.weighted.terms) {i = i} (omega (arith, length_terms s.weighted.terms)))
 
   -- a stream passes terms that are not in it
-  pass : (d low r : ℕ) → low + d ≡ r → r ≤ s.terms.count → ((i : ℕ) → low ≤ i → i < r → weight_at s j i ≡ 0) → from s j low ≡ from s j r
+  pass : (d low r : ℕ) → low + d ≡ r → r ≤ s.weighted.terms.count → ((i : ℕ) → low ≤ i → i < r → weight_at s.weighted j i ≡ 0) → from s j low ≡ from s j r
   pass zero low r e h f = ap (from s j) (sym (add-zero low) ∙ e)
   pass (suc d) low r e h f =
       stream_skip low (omega arith) (f low (omega arith) (omega arith)) ∙ pass d (suc low) r (omega arith) h (λ i a b. f i (omega arith) b)
 
   -- and so from one of its terms to the next
-  pub stream_pass : (low r : ℕ) → Next s j low r → from s j low ≡ from s j r
+  pub stream_pass : (low r : ℕ) → Next s.weighted j low r → from s j low ≡ from s j r
   stream_pass low r n = pass (r - low) low r (omega (arith, n.least)) n.high n.none
 
   module _ (at : List ℕ) where
     -- the rank at the end
-    pub rank_end : s.terms.count ≤ get_or at j 0 → rank s at j ≡ 0
+    pub rank_end : s.weighted.terms.count ≤ get_or at j 0 → rank s at j ≡ 0
     unfolding rank
-    rank_end h = rw (le-ltb (get_or at j 0) s.terms.count h)
+    rank_end h = rw (le-ltb (get_or at j 0) s.weighted.terms.count h)
 
     -- the rank at a term
-    pub rank_live : get_or at j 0 < s.terms.count → rank s at j ≡ suc (set_in s (get_or at j 0) j)
+    pub rank_live : get_or at j 0 < s.weighted.terms.count → rank s at j ≡ suc (set_in s (get_or at j 0) j)
     unfolding rank
-    rank_live h = rw (lt-ltb (get_or at j 0) s.terms.count h)
+    rank_live h = rw (lt-ltb (get_or at j 0) s.weighted.terms.count h)
 
     module _ (x c : ℕ) (hc : c < modulus s) (lj : j < length at) (ld : Loaded s at j) (lw : Below (suc x) (rest s at j)) where
       -- the stream is at its end: nothing is taken
-      pub took_end : s.terms.count ≤ get_or at j 0 → Took s x j at at c c
+      pub took_end : s.weighted.terms.count ≤ get_or at j 0 → Took s x j at at c c
       took_end h = record {
         others = λ i n. refl;
         grows = omega arith;
@@ -111,11 +112,11 @@ module _ (s : Streams) (j : ℕ) where
       }
 
       -- the set at the head is at most x
-      low_head : get_or at j 0 < s.terms.count → set_in s (get_or at j 0) j < suc x
+      low_head : get_or at j 0 < s.weighted.terms.count → set_in s (get_or at j 0) j < suc x
       low_head h = (rw (stream_some (get_or at j 0) h (ld.1 h)) at lw).0
 
       -- the head has another set: nothing is taken
-      pub took_other : get_or at j 0 < s.terms.count → (set_in s (get_or at j 0) j ≡ x → ⊥) → Took s x j at at c c
+      pub took_other : get_or at j 0 < s.weighted.terms.count → (set_in s (get_or at j 0) j ≡ x → ⊥) → Took s x j at at c c
       took_other h n =
           let e = stream_some (get_or at j 0) h (ld.1 h) in
           let lo = low_head h in
@@ -130,8 +131,8 @@ module _ (s : Streams) (j : ℕ) where
           }
 
       -- the head has that set: it is taken
-      pub took_same : get_or at j 0 < s.terms.count → set_in s (get_or at j 0) j ≡ x
-          → (r c' : ℕ) → Next s j (get_or at j 0 + 1) r → c' ≡ (c + weight_at s j (get_or at j 0)) % modulus s → c' < modulus s
+      pub took_same : get_or at j 0 < s.weighted.terms.count → set_in s (get_or at j 0) j ≡ x
+          → (r c' : ℕ) → Next s.weighted j (get_or at j 0 + 1) r → c' ≡ (c + weight_at s.weighted j (get_or at j 0)) % modulus s → c' < modulus s
           → Took s x j at (set at j r) c c'
       took_same h q r c' n e hc' =
           let y = stream_some (get_or at j 0) h (ld.1 h) in
@@ -148,29 +149,29 @@ module _ (s : Streams) (j : ℕ) where
           }
 
 -- the words of a set of a stream lie inside
-module _ (s : Streams) (i j : ℕ) (li : i < s.terms.count) (lj : j < count s) where
+module _ (s : Streams) (i j : ℕ) (li : i < s.weighted.terms.count) (lj : j < count s) where
   -- those of the term
-  pub term_in : i * (s.terms.width + 1) + (s.terms.width + 1) ≤ length s.terms.words.now
-  term_in = stride_in i s.terms.count s.terms.width (length s.terms.words.now) li s.terms.within
+  pub term_in : i * (s.weighted.terms.width + 1) + (s.weighted.terms.width + 1) ≤ length s.weighted.terms.words.now
+  term_in = stride_in i s.weighted.terms.count s.weighted.terms.width (length s.weighted.terms.words.now) li s.weighted.terms.within
 
   -- and those of the mask
-  pub mask_in : j * s.terms.width + s.terms.width ≤ length s.masks.now
-  mask_in = row_in j (count s) s.terms.width (length s.masks.now) lj s.masked.wide
+  pub mask_in : j * s.weighted.terms.width + s.weighted.terms.width ≤ length s.masks.now
+  mask_in = row_in j (count s) s.weighted.terms.width (length s.masks.now) lj s.masked.wide
 
   -- the set is the number of those of the term under that of those of the mask
-  pub set_under : set_in s i j ≡ under_mask s.terms.words.now (i * (s.terms.width + 1) + 1) s.masks.now (j * s.terms.width) s.terms.width
+  pub set_under : set_in s i j ≡ under_mask s.weighted.terms.words.now (i * (s.weighted.terms.width + 1) + 1) s.masks.now (j * s.weighted.terms.width) s.weighted.terms.width
   unfolding mask_at
-  set_under = rw (decoded_set s.terms.width s.terms.count i s.terms.words.now li)
+  set_under = rw (decoded_set s.weighted.terms.width s.weighted.terms.count i s.weighted.terms.words.now li)
 
   -- so of as many of them as the gate's sets use
-  pub set_short : set_in s i j ≡ under_mask s.terms.words.now (i * (s.terms.width + 1) + 1) s.masks.now (j * s.terms.width) s.gate.k
+  pub set_short : set_in s i j ≡ under_mask s.weighted.terms.words.now (i * (s.weighted.terms.width + 1) + 1) s.masks.now (j * s.weighted.terms.width) s.weighted.gate.k
   unfolding mask_at
   set_short =
-      let small = rw (decoded_set s.terms.width s.terms.count i s.terms.words.now li) at (s.masked.sets i li) in
+      let small = rw (decoded_set s.weighted.terms.width s.weighted.terms.count i s.weighted.terms.words.now li) at (s.masked.sets i li) in
       rw (
-        decoded_set s.terms.width s.terms.count i s.terms.words.now li,
-        num_short s.terms.words.now (i * (s.terms.width + 1) + 1) s.terms.width s.gate.k (omega (arith, term_in)) s.masked.short small,
-        num_short s.masks.now (j * s.terms.width) s.terms.width s.gate.k mask_in s.masked.short (s.masked.low j lj),
+        decoded_set s.weighted.terms.width s.weighted.terms.count i s.weighted.terms.words.now li,
+        num_short s.weighted.terms.words.now (i * (s.weighted.terms.width + 1) + 1) s.weighted.terms.width s.weighted.gate.k (omega (arith, term_in)) s.masked.short small,
+        num_short s.masks.now (j * s.weighted.terms.width) s.weighted.terms.width s.weighted.gate.k mask_in s.masked.short (s.masked.low j lj),
       )
 
 -- a bit that was asked for, as a number

@@ -6,7 +6,7 @@ use Rattle.rules.specs.Each.{sum}
 use Rattle.rules.specs.Polynomial.{Polynomial, hit, coefficient_at, Below}
 use Rattle.rules.proofs.Terms.{hit_zero, weaken}
 use Rattle.weave.proofs.Fronts.{sum_swap}
-use Rattle.merge.specs.Heads.{count, modulus, from, rest, rank, Loaded, Took, Swept}
+use Rattle.merge.specs.Heads.{count, modulus, from, rest, rank, Loaded, Took}
 use Rattle.merge.specs.declared.streams.Streams.{Streams}
 
 -- the rank of a stream depends on its own place alone
@@ -29,7 +29,7 @@ module _ (s : Streams) (set : ℕ) where
   -- no head looked at
   pub sweep_none : (at : List ℕ) → ((i : ℕ) → i < count s → Loaded s at i) → ((i : ℕ) → i < count s → Below (suc set) (rest s at i)) → Sweeping s set 0 at at 0
   sweep_none at ld hi = record {
-    small = pow_pos s.gate.l;
+    small = pow_pos s.weighted.gate.l;
     loaded = ld;
     low = λ i l. absurd (omega arith);
     high = hi;

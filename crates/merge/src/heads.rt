@@ -17,17 +17,25 @@ fn added(c: u64, k: i16, x: u64, l: u32) -> u64
     words::coefficients::sum(c, times.wrapping_mul(x), l)
 }
 
-impl Streams<'_> {
+impl Streams<'_, '_> {
     // The order of the set of term i in stream j and that of term h in stream b.
     fn compare(&self, i: usize, j: usize, h: usize, b: usize) -> Ordering
-        requires { (i < self.now.terms.count) × (j < count self.now) × (h < self.now.terms.count) × (b < count self.now) }
+        requires { (i < self.now.weighted.terms.count) × (j < count self.now) × (h < self.now.weighted.terms.count) × (b < count self.now) }
         ensures { result ≡ nat_cmp (set_in self.now i j) (set_in self.now h b) }
     {
-        let terms = &self.terms;
+        let terms = &self.weighted.terms;
         let w = terms.width;
         let x = terms.set_at(i);
         let y = terms.set_at(h);
-        words::sets::compare(terms.words, x, y, self.masks, j * w, b * w, self.gate.k)
+        words::sets::compare(
+            terms.words,
+            x,
+            y,
+            self.masks,
+            j * w,
+            b * w,
+            self.weighted.gate.k,
+        )
     }
 
     // Of the heads j and b, the one with the larger set; b if they are equal.
@@ -36,11 +44,11 @@ impl Streams<'_> {
         ensures { result ≡ cond (ltb (rank self.now at.now b) (rank self.now at.now j)) j b }
     {
         let i = at[j];
-        if i >= self.terms.count {
+        if i >= self.weighted.terms.count {
             return b;
         }
         let h = at[b];
-        if h >= self.terms.count {
+        if h >= self.weighted.terms.count {
             return j;
         }
         if self.compare(i, j, h, b).is_gt() {
@@ -65,7 +73,7 @@ impl Streams<'_> {
     // Whether term i has in stream j the set that term h has in stream b. Every sweep compares the best head with itself: the same
     // place needs no look.
     fn same(&self, i: usize, j: usize, h: usize, b: usize) -> bool
-        requires { (i < self.now.terms.count) × (j < count self.now) × (h < self.now.terms.count) × (b < count self.now) }
+        requires { (i < self.now.weighted.terms.count) × (j < count self.now) × (h < self.now.weighted.terms.count) × (b < count self.now) }
         ensures { result ≡ eqb (set_in self.now i j) (set_in self.now h b) }
     {
         (i == h && j == b) || self.compare(i, j, h, b).is_eq()
@@ -74,29 +82,29 @@ impl Streams<'_> {
     // The head of stream j, if its set is that of term h in stream b: it is added to c, and the stream goes on.
     #[tactic(auto, using(crate::proofs::Flow::streams_few))]
     fn take_head(&self, at: &mut [usize], j: usize, h: usize, b: usize, c: u64) -> u64
-        requires { (length at.old ≡ count self.now) × (j < count self.now) × (h < self.now.terms.count) × (b < count self.now) × (c < modulus self.now)
+        requires { (length at.old ≡ count self.now) × (j < count self.now) × (h < self.now.weighted.terms.count) × (b < count self.now) × (c < modulus self.now)
             × Loaded self.now at.old j × Below (suc (set_in self.now h b)) (rest self.now at.old j) }
         ensures { Took self.now (set_in self.now h b) j at.old at.new c result }
     {
         let i = at[j];
-        if i >= self.terms.count {
+        if i >= self.weighted.terms.count {
             return c;
         }
         if !self.same(i, j, h, b) {
             return c;
         }
-        at[j] = self.next(j, i + 1);
+        at[j] = self.weighted.next(j, i + 1);
         added(
             c,
-            self.multiplier_of(i, j),
-            self.terms.coefficient(i),
-            self.gate.l,
+            self.weighted.multiplier(i, j),
+            self.weighted.terms.coefficient(i),
+            self.weighted.gate.l,
         )
     }
 
     // Adds up every head whose set is that of term h in stream b; those streams go on.
     pub fn sweep(&self, at: &mut [usize], h: usize, b: usize) -> u64
-        requires { (length at.old ≡ count self.now) × (h < self.now.terms.count) × (b < count self.now)
+        requires { (length at.old ≡ count self.now) × (h < self.now.weighted.terms.count) × (b < count self.now)
             × ((i : ℕ) → i < count self.now → Loaded self.now at.old i)
             × ((i : ℕ) → i < count self.now → Below (suc (set_in self.now h b)) (rest self.now at.old i)) }
         ensures { Swept self.now (set_in self.now h b) at.old at.new result }

@@ -10,7 +10,7 @@ ghost use Rattle.tally.specs.Marks.{Renumbered};
 ghost use Rattle.poly.specs.Stepping.{Fit, Ready, Prepared, Numberable, Stepped, Each};
 
 use merge::merging::merge;
-use merge::streams::{Gate, Streams, streams_of};
+use merge::streams::{Gate, Streams, Weighted, streams_of};
 use rules::records::Record;
 use weave::weaving::Sizes;
 use words::listed::Terms;
@@ -35,10 +35,13 @@ fn replacements(
     let count = streams_of(g);
     gates::multipliers::multiplier_table(row, &mut multipliers[..count * 8]);
     gates::masks::mask_table(&mut masks, count, terms.width, g.v, g.over);
-    let streams = Streams {
+    let weighted = Weighted {
         terms: *terms,
         gate: g,
         multipliers: &multipliers,
+    };
+    let streams = Streams {
+        weighted,
         masks: &masks,
     };
     merge(&streams, scratch, limit)

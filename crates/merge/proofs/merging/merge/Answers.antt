@@ -21,23 +21,23 @@ module _ (n : ℕ) (g : Gate) (e : n ≡ streams_of g) where
 pub slice_bounds-begin-end : goal.slice_bounds-begin-end
 slice_bounds-begin-end c =
     let s = c.streams_of-count in
-    sym (lent s.result c.args.streams.now.gate s.ensures)
+    sym (lent s.result c.args.streams.now.weighted.gate s.ensures)
 
 pub slice_bounds-at-end-2 : goal.slice_bounds-at-end-2
 slice_bounds-at-end-2 c =
     let s = c.streams_of-count in
     let b = c.begin in
-    omega (arith, length-append b.new.at (drop s.result (replicate 8 0)), lent s.result c.args.streams.now.gate s.ensures, b.auto.at)
+    omega (arith, length-append b.new.at (drop s.result (replicate 8 0)), lent s.result c.args.streams.now.weighted.gate s.ensures, b.auto.at)
 
 pub slice_bounds-run-end : goal.slice_bounds-run-end
 slice_bounds-run-end c =
     let s = c.streams_of-count in
-    s.ensures ∙ sym (count s.result c.args.streams.now.gate s.ensures c.begin.new.at c.begin.auto.at)
+    s.ensures ∙ sym (count s.result c.args.streams.now.weighted.gate s.ensures c.begin.new.at c.begin.auto.at)
 
 pub run-held-requires : goal.run-held-requires
 run-held-requires c =
     let p = c.requires in
     let s = c.streams_of-count in
-    let b = begun s.result c.args.streams.now.gate s.ensures c.begin.new.at c.begin.auto.at in
-    let k = count s.result c.args.streams.now.gate s.ensures c.begin.new.at c.begin.auto.at in
+    let b = begun s.result c.args.streams.now.weighted.gate s.ensures c.begin.new.at c.begin.auto.at in
+    let k = count s.result c.args.streams.now.weighted.gate s.ensures c.begin.new.at c.begin.auto.at in
     (k, p.0, p.1, λ j l. rw b (c.begin.ensures j (rw (← c.begin.auto.at, ← b) (omega (arith, k)))))

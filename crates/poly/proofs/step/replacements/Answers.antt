@@ -61,6 +61,18 @@ mask_table-requires c =
       λ j d. mask_none t.width 128 j,
     )
 
+pub invariant_of-weighted : goal.invariant_of-weighted
+invariant_of-weighted c =
+    let a = c.args in
+    let t = a.terms.now in
+    let s = c.streams_of-count in
+    let m = c.mask_table in
+    let n = c.multiplier_table in
+    let table = n.new.table ++ drop (s.result * 8) (replicate 64 (pos 0)) in
+    let z = size s.result a.g s.ensures n.new.table n.auto.table in
+    let filled = tabled s.result a.g s.ensures n.new.table n.auto.table a.row.now n.ensures in
+    record { held = held t a.g a.r a.row.now c.requires.0 table m.new.masks z filled (rw s.ensures at m.ensures.0) }
+
 pub invariant_of-streams : goal.invariant_of-streams
 invariant_of-streams c =
     let a = c.args in
@@ -71,8 +83,7 @@ invariant_of-streams c =
     let table = n.new.table ++ drop (s.result * 8) (replicate 64 (pos 0)) in
     let z = size s.result a.g s.ensures n.new.table n.auto.table in
     let filled = tabled s.result a.g s.ensures n.new.table n.auto.table a.row.now n.ensures in
-    let masked = rw s.ensures at m.ensures.0 in
-    record { held = held t a.g a.r a.row.now c.requires.0 table m.new.masks z filled masked; masked = masks_short t a.g a.r a.row.now c.requires.0 table m.new.masks z filled masked (omega (arith, mul-le-mul_right t.width (streams_few a.g).1, t.narrow, m.auto.masks)) }
+    record { masked = masks_short t a.g a.r a.row.now c.requires.0 table m.new.masks z filled (rw s.ensures at m.ensures.0) (omega (arith, mul-le-mul_right t.width (streams_few a.g).1, t.narrow, m.auto.masks)) }
 
 pub merge-requires : goal.merge-requires
 merge-requires c =

@@ -10,4 +10,4 @@ returns c =
     let a = c.args in
     let s = a.self.now in
     let e = rw c.set_at-h.ensures at c.write.ensures in
-    (emit_put s.terms.width a.o a.limit a.c (words_in s a.i a.b) a.scratch.now c.write.new.target (omega arith) (omega arith) e.0, λ some room. e.1 ∙ sym (set_under s a.i a.b (omega arith) (omega arith)))
+    (emit_put s.weighted.terms.width a.o a.limit a.c (words_in s a.i a.b) a.scratch.now c.write.new.target (omega arith) (omega arith) e.0, λ some room. e.1 ∙ sym (set_under s a.i a.b (omega arith) (omega arith)))

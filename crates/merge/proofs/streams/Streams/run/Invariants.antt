@@ -9,4 +9,4 @@ abbrev pub invariant-loop-limit : goal.invariant-loop-limit
 invariant-loop-limit l = Going l.self l.limit l.initial.scratch l.scratch l.at l.out
 
 abbrev pub decreases-loop-limit : goal.decreases-loop-limit
-decreases-loop-limit l = sum (count l.self) (λ i. l.self.terms.count - get_or l.at i 0)
+decreases-loop-limit l = sum (count l.self) (λ i. l.self.weighted.terms.count - get_or l.at i 0)

@@ -26,7 +26,7 @@ unfolding weight
 returns c =
     let a = c.args in
     let p = c.requires in
-    let k = to_z-of_z {w = w16} (record { sfits = c.multiplier_of.type_inv }) ∙ c.multiplier_of.ensures in
+    let k = to_z-of_z {w = w16} (record { sfits = c.multiplier.type_inv }) ∙ c.multiplier.ensures in
     took_same a.self.now a.j a.at.now _ a.c p.4 (omega arith) p.5 p.6 c.if-i-self.false
     (eqb-true (set_in a.self.now (get_or a.at.now a.j 0) a.j) (set_in a.self.now a.h a.b) (sym c.same.ensures ∙ c.if-not-same.false))
     c.next.result c.added.result c.next.ensures (rw (k, c.coefficient.ensures) at c.added.ensures) (rw c.added.ensures (mod-lt _ (pow_pos _)))

@@ -11,9 +11,8 @@ use lib.Dec.{ltb}
 use lib.ListN.{length, get_or, take, drop, drop_of_length-le}
 use lib.Pow.{pow_pos, pow_mono, pow-add, shl_exact}
 use lib.Seq.{drop-cons}
-use borrow.Author.Tests.{lt-ltb, le-ltb, ltb-true, ltb-false, eqb-true, eqb-false}
-use Rattle.std.proofs.Common.{◌||◌, eqb, not, add-zero, Some, Less, Equal, Greater}
-use Rattle.std.specs.List.{list_any, range_with_len}
+use borrow.Author.Tests.{lt-ltb, le-ltb, ltb-true, ltb-false}
+use Rattle.std.proofs.Common.{◌||◌, eqb, Some, Less, Equal, Greater}
 use Rattle.std.specs.Ordering.{is_lt, is_some_and, nat_cmp, partial_lt, partial_ordering_then}
 use Rattle.rules.specs.Each.{every}
 use Rattle.rules.specs.Judging.{set_width, term_width, inputs_only, sooner, soonest, differs, ended}
@@ -56,23 +55,6 @@ module _ (s v : ℕ) where
           omega (arith, zero-mul (2 ^ v), mod-lt s (pow_pos v))
       go (suc zero) e = absurd (n (rw e))
       go (suc (suc k)) e = absurd (omega (arith, few))
-
--- a set of variables below a + n has none from a on where it is below 2^a
-pub none_from : (s n a : ℕ) → s < 2 ^ (a + n) → not (list_any (λ v. eqb (bit s v) 1) (range_with_len a n)) ≡ ltb s (2 ^ a)
-none_from s zero a h = sym (lt-ltb s (2 ^ a) (rw add-zero at h))
-none_from s (suc n) a h =
-    let e : a + suc n ≡ a + 1 + n = omega arith in
-    go (eqb (bit s a) 1) (ltb s (2 ^ (a + 1))) refl refl (none_from s n (a + 1) (rw e at h))
-  where
-    more : 2 ^ a ≤ 2 ^ (a + 1)
-    more = pow_mono {i = a} {j = a + 1} (omega arith)
-
-    go : (t u : Bool) → eqb (bit s a) 1 ≡ t → ltb s (2 ^ (a + 1)) ≡ u
-        → not (list_any (λ v. eqb (bit s v) 1) (range_with_len (a + 1) n)) ≡ ltb s (2 ^ (a + 1))
-        → not (t || list_any (λ v. eqb (bit s v) 1) (range_with_len (a + 1) n)) ≡ ltb s (2 ^ a)
-    go true u e f later = sym (le-ltb s (2 ^ a) (gate_there s a (eqb-true (bit s a) 1 e)))
-    go false true e f later = later ∙ f ∙ sym (lt-ltb s (2 ^ a) (gate_absent s a (ltb-true s (2 ^ (a + 1)) f) (eqb-false (bit s a) 1 e)))
-    go false false e f later = later ∙ f ∙ sym (le-ltb s (2 ^ a) (omega (arith, more, ltb-false s (2 ^ (a + 1)) f)))
 
 -- sets that fall from below a bound pass the test of the bound
 falling : (bound b : ℕ) (p : Polynomial) → Below b p → b ≤ bound → every (λ (t : Term). ltb t.1 bound) p ≡ true

@@ -17,14 +17,20 @@ use rules::answers::Answer;
 use rules::counts::Counts;
 use words::sets::holds;
 
-// Whether the first term, whose set is the largest, holds no gate: then no term does.
+// Whether the first term, whose set is the largest, holds no gate: then no term does. Looked for from the top, where most sets that hold one
+// have it.
 fn inputs_only(c: Counts, store: &[u64]) -> bool
     requires { (c.i ≤ c.m) × (c.m ≤ most_variables) × (1 + set_width c ≤ length store.now)
         × (num (words_at store.now 1 (set_width c)) < 2 ^ (c.m + 1)) }
     ensures { result ≡ ltb (num (words_at store.now 1 (set_width c))) (2 ^ (c.i + 1)) }
 {
     let w = (c.m / 64 + 1) as usize;
-    !(c.i + 1..c.m + 1).any(|v| holds(store, 1, w, v as usize) == 1)
+    for v in (c.i + 1..c.m + 1).rev() {
+        if holds(store, 1, w, v as usize) == 1 {
+            return false;
+        }
+    }
+    true
 }
 
 // Half of the set at word `at`: its variables, counted from 0 on.

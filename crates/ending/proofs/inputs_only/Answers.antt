@@ -1,27 +1,38 @@
-use Rattle.std.proofs.Common.{◌≡◌, ℕ, ◌+◌, ◌-◌, Bool, eqb, not, rules, refl, ap, ◌∙◌, arith}
-use borrow.Author.Tests.{tests}
-use Rattle.std.proofs.lemmas.Iterator.{YieldsList-from_range, serves_from_Range}
-use Rattle.std.proofs.lemmas.Iterator.Search.{any_from_yields_List}
+use Rattle.std.proofs.Common.{◌≡◌, ◌+◌, ◌-◌, ◌^◌, ◌≤◌, sym, ◌∙◌, lt-ltb, le-ltb, arith}
+use lib.Pow.{pow_mono}
 use Rattle.rules.specs.Judging.{set_width}
-use Rattle.rules.specs.Values.{bit}
 use Rattle.words.specs.Numbers.{num, words_at}
-use Rattle.ending.proofs.Ended.{none_from}
+use Rattle.ending.proofs.Ended.{gate_there, gate_absent}
 use Rattle.ending.proofs.inputs_only.Goals as goal
 
-pub any-requires-clause-callable : goal.any-requires-clause-callable
-unfolding set_width
-any-requires-clause-callable c =
-    let room = c.requires.2 in
-    serves_from_Range (λ x q k. search (rules, tests)) (λ x low high. search rules)
+pub loop-v-init : goal.loop-v-init
+loop-v-init c = (omega arith, c.requires.3)
 
-pub returns : goal.returns
+pub holds-requires : goal.holds-requires
 unfolding set_width
-returns c =
+holds-requires c = (c.requires.2, omega arith)
+
+pub returns-then-holds-eq1 : goal.returns-then-holds-eq1
+unfolding set_width
+returns-then-holds-eq1 c =
     let a = c.args in
     let s = num (words_at a.store.now 1 (set_width a.c)) in
-    let n = a.c.m - a.c.i in
-    let end : a.c.i + 1 + n ≡ a.c.m + 1 = omega arith in
-    let test : ℕ → Bool = λ v. eqb (bit s v) 1 in
-    let numbers = YieldsList-from_range (a.c.i + 1) (a.c.m + 1) n refl (omega arith) in
-    let any = any_from_yields_List test _ _ c.any.result c.any.ensures.ran numbers (λ x b q k. search (rules, tests)) in
-    ap not any ∙ none_from s n (a.c.i + 1) (rw end c.requires.3)
+    let v = c.loop-v.v - 1 in
+    let there : 2 ^ v ≤ s = gate_there s v (sym c.holds.ensures ∙ c.if-holds-eq1.true) in
+    let less : 2 ^ (a.c.i + 1) ≤ 2 ^ v = pow_mono (omega arith) in
+    sym (le-ltb s (2 ^ (a.c.i + 1)) (omega arith))
+
+pub loop-v-preserved : goal.loop-v-preserved
+unfolding set_width
+loop-v-preserved c =
+    let a = c.args in
+    let s = num (words_at a.store.now 1 (set_width a.c)) in
+    let v = c.loop-v.v - 1 in
+    let e : v + 1 ≡ c.loop-v.v = omega arith in
+    (omega arith, gate_absent s v (rw e c.loop-v.invariant.1) (λ h. c.if-holds-eq1.false (c.holds.ensures ∙ h)))
+
+pub returns : goal.returns
+returns c =
+    let a = c.args in
+    let last : c.loop-v.v ≡ a.c.i + 1 = omega arith in
+    sym (lt-ltb (num (words_at a.store.now 1 (set_width a.c))) (2 ^ (a.c.i + 1)) (rw last at c.loop-v.invariant.1))

@@ -100,6 +100,7 @@ impl<'a> SoundBlock<'a> {
     ghost use Rattle.netlist.specs.Made.{Made};
 
     // The block of these counts and this table, or the first refusal in the order of checks.
+    #[inline(always)] // what is refused by its counts is then refused without a call
     #[tactic(auto, using(crate::proofs::Facts::passed), unfolding(rules::specs::Values::evaluate_checks, rules::specs::Says::first))]
     pub fn made(counts: Counts, table: &'a [u32]) -> Result<SoundBlock<'a>, Refusal>
         ensures { Made counts table.now result }

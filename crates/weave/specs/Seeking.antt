@@ -1,11 +1,11 @@
 -- Places among terms whose sets fall.
 use Rattle.std.specs.Prelude.{◌≡◌, List, ℕ, ◌+◌, ◌-◌, ◌*◌, ◌^◌, ◌<◌, ◌≤◌, length, get_or}
-use Rattle.std.specs.declared.ops.Range.{Range}
 use Rattle.rules.specs.Values.{bit}
 use Rattle.rules.specs.Polynomial.{Polynomial, Below}
 use Rattle.words.specs.Listed.{terms_of}
 use Rattle.words.specs.Numbers.{num, words_at}
 use Rattle.words.specs.declared.listed.Terms.{Terms}
+use Rattle.weave.specs.declared.seeking.Range.{Range}
 
 -- the sets fall, and use no more than r of their w words
 pub record Uses (w : ℕ) (p : Polynomial) (r : ℕ) : Type 0 where
@@ -51,10 +51,10 @@ pub record Cut (p : Polynomial) (s from to r : ℕ) : Type 0 where
   pub above : Above p s from r
   pub under : r < to → (get_or p r (0, 0)).1 ≤ s
 
--- that place is from r.start to r.end
-pub record Bracket (p : Polynomial) (s from to : ℕ) (r : Range ℕ) : Type 0 where
-  pub low : from ≤ r.start
-  pub ordered : r.start ≤ r.end
-  pub high : r.end ≤ to
-  pub above : Above p s from r.start
-  pub under : r.end < to → (get_or p r.end (0, 0)).1 ≤ s
+-- that place is from r.low to r.high
+pub record Bracket (p : Polynomial) (s from to : ℕ) (r : Range) : Type 0 where
+  pub low : from ≤ r.low
+  pub ordered : r.low ≤ r.high
+  pub high : r.high ≤ to
+  pub above : Above p s from r.low
+  pub under : r.high < to → (get_or p r.high (0, 0)).1 ≤ s

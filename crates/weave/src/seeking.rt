@@ -5,7 +5,6 @@ ghost use Rattle.words.specs.Listed.{terms_of, set_of};
 ghost use Rattle.words.specs.Numbers.{num, words_at};
 ghost use Rattle.weave.specs.Seeking.{Uses, Free, Stop, Last, Sought, Cut, Bracket};
 
-use std::ops::Range;
 use words::listed::Terms;
 
 // How many words the sets use: the first set is the largest.
@@ -89,6 +88,13 @@ pub fn holding(terms: &Terms, v: usize, from: usize, end: usize) -> usize
     terms.count
 }
 
+// A stretch of terms, from `low` to before `high`.
+#[derive(Clone, Copy)]
+pub struct Range {
+    pub low: usize,
+    pub high: usize,
+}
+
 // Whether the set of term i is above the one at word t of `others`; both use k words.
 fn over(terms: &Terms, k: usize, i: usize, others: &[u64], t: usize) -> bool
     requires { (i < terms.now.count) × (k ≤ terms.now.width) × (t + terms.now.width ≤ length others.now)
@@ -108,7 +114,7 @@ pub fn equal(words: &[u64], i: usize, others: &[u64], h: usize, w: usize, k: usi
 }
 
 // Goes on from `from` in steps that double, as long as the sets are above the one at word t of `others`: between which terms that ends.
-fn leap(terms: &Terms, k: usize, from: usize, to: usize, others: &[u64], t: usize) -> Range<usize>
+fn leap(terms: &Terms, k: usize, from: usize, to: usize, others: &[u64], t: usize) -> Range
     requires { Sought terms.now k from to others.now t }
     ensures { Bracket (terms_of terms.now) (num (words_at others.now t terms.now.width)) from to result }
 {
@@ -117,12 +123,12 @@ fn leap(terms: &Terms, k: usize, from: usize, to: usize, others: &[u64], t: usiz
     while step <= to - low {
         let probe = low + (step - 1);
         if !over(terms, k, probe, others, t) {
-            return low..probe;
+            return Range { low, high: probe };
         }
         low = probe + 1;
         step = step * 2;
     }
-    low..to
+    Range { low, high: to }
 }
 
 // Of the terms from `from` to `to`, the first whose set is not above the one at word t of `others`, or `to`. No set uses more than k words.
@@ -131,13 +137,13 @@ pub fn above(terms: &Terms, k: usize, from: usize, to: usize, others: &[u64], t:
     ensures { Cut (terms_of terms.now) (num (words_at others.now t terms.now.width)) from to result }
 {
     let mut left = leap(terms, k, from, to, others, t);
-    while left.start < left.end {
-        let middle = left.start + (left.end - left.start) / 2;
+    while left.low < left.high {
+        let middle = left.low + (left.high - left.low) / 2;
         if over(terms, k, middle, others, t) {
-            left.start = middle + 1;
+            left.low = middle + 1;
         } else {
-            left.end = middle;
+            left.high = middle;
         }
     }
-    left.start
+    left.low
 }

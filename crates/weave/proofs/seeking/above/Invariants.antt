@@ -9,4 +9,4 @@ abbrev pub invariant-loop-left : goal.invariant-loop-left
 invariant-loop-left l = Bracket (terms_of l.terms) (num (words_at l.others l.t l.terms.width)) l.from l.to l.left
 
 abbrev pub decreases-loop-left : goal.decreases-loop-left
-decreases-loop-left l = l.left.end - l.left.start
+decreases-loop-left l = l.left.high - l.left.low

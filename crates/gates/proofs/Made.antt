@@ -31,7 +31,7 @@ use Rattle.gates.proofs.Spread.{whole_makes}
 use Rattle.gates.proofs.Whole.{whole_none}
 
 -- a number that is not 0 counts once
-present_one : (n : ℕ) → (n ≡ 0 → ⊥) → present n ≡ 1
+pub present_one : (n : ℕ) → (n ≡ 0 → ⊥) → present n ≡ 1
 unfolding present
 present_one zero h = absurd (h refl)
 present_one (suc n) h = refl

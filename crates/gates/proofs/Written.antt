@@ -61,6 +61,10 @@ joining_ahead i j u row old l f = ⊎_elim
     rw (e, f u (omega arith), f (u - 2 ^ i + 2 ^ j) (omega arith), f (u + 2 ^ j) (omega arith)))
     (bit_cases u i)
 
+-- coefficients that lie near 0 do so from any place on
+pub near_of : (b n : ℕ) (row : ℕ → ℤ) → Within b row → Near b n row
+near_of b n row f u l a = f u a
+
 -- a coefficient near 0, written and read back
 pub near_back : (n u b : ℕ) (row : ℕ → ℤ) → b ≤ 108 → Near b n row → n ≤ u → u < 8 → to_z w16 (of_z w16 (row u)) ≡ row u
 near_back n u b row h f l a = let w = f u l a in read_back (row u) (omega (arith, w.0), omega (arith, w.1))

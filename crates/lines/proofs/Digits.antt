@@ -16,7 +16,7 @@ use Rattle.rules.specs.Reading.{Scan, found, missing, with_numbers, and_then, be
 use Rattle.lines.specs.Found.{digits_of, number_of}
 
 -- a digit stands before the others
-digits_more : (text : List ℕ) (at : ℕ) → at < length text → digit (get_or text at 0) ≡ true
+pub digits_more : (text : List ℕ) (at : ℕ) → at < length text → digit (get_or text at 0) ≡ true
     → leading_digits (drop at text) ≡ get_or text at 0 ∷ leading_digits (drop (at + 1) text)
 unfolding leading_digits
 digits_more text at h d = rw (drop-cons text at 0 h, d, add-one)

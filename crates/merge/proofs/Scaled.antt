@@ -1,8 +1,9 @@
 -- Laws of a coefficient times a whole number.
-use Rattle.std.proofs.Common.{◌≡◌, ℕ, zero, suc, ◌+◌, ◌-◌, ◌*◌, ◌%◌, ◌^◌, ◌<◌, ◌≤◌, ℤ, pos, negsuc, refl, ap, sym, ◌∙◌, add-zero, zero-add, zero-mul, suc-mul, add-mul, mul_comm, mul_assoc, pow-add, arith}
+use Rattle.std.proofs.Common.{◌≡◌, ℕ, zero, suc, ◌+◌, ◌-◌, ◌*◌, ◌%◌, ◌^◌, ◌<◌, ◌≤◌, Bool, true, false, ltb, ℤ, pos, negsuc, refl, ap, sym, ◌∙◌, add-zero, zero-add, zero-mul, suc-mul, add-mul, mul_comm, mul_assoc, pow-add, arith}
 use native.Mathlib.Nat.{mul-add, add-mod-mod, add-mul-mod_self_right}
 use mir.Syntax.{w16, w64}
-use mir.Val.{SFits, to_z, of_z}
+use lib.IntN.{nat_abs, pos-ne-negsuc}
+use mir.Val.{SFits, to_z, of_z, sel}
 use mir.Facts.{to_z-of_z}
 use Rattle.words.proofs.Writing.{drop_wrap}
 use Rattle.rules.specs.Cells.{above, below, scaled}
@@ -17,6 +18,14 @@ scaled_some m (negsuc k) c e l h = omega (arith, suc-mul k (m - c))
 -- the whole number of some bits
 pub from_bits : (z : ℤ) (n : ℕ) → SFits w16 z → of_z w16 z ≡ n → z ≡ to_z w16 n
 from_bits z n f e = sym (to_z-of_z {w = w16} {z = z} f) ∙ ap (to_z w16) e
+
+-- bits that are not 0 are no 0
+pub some_bits : (n : ℕ) → (n ≡ 0 → ⊥) → to_z w16 n ≡ pos 0 → ⊥
+some_bits n h = go (ltb n (2 ^ 15))
+  where
+    go : (b : Bool) → sel b (pos n) (negsuc (2 ^ 16 - suc n)) ≡ pos 0 → ⊥
+    go true e = h (ap nat_abs e)
+    go false e = pos-ne-negsuc 0 (2 ^ 16 - suc n) (sym e)
 
 -- what wraps at 64 bits is the same modulo 2^l
 wrapped : (c n l : ℕ) → l ≤ 64 → (c + n % 2 ^ 64) % 2 ^ l ≡ (c + n) % 2 ^ l

@@ -96,7 +96,7 @@ module _ (z : Sizes) (store scratch : List ℕ) {lent : ℕ} (first used to : �
       omega (arith, h.store_room, h.fits, mul-le-mul_left z.limit one)
 
   -- the words from the first term left on
-  all_left : take (length store - first * (z.w + 1)) (drop (first * (z.w + 1)) store) ≡ drop (first * (z.w + 1)) store
+  pub all_left : take (length store - first * (z.w + 1)) (drop (first * (z.w + 1)) store) ≡ drop (first * (z.w + 1)) store
   all_left = take_all (length store - first * (z.w + 1)) (drop (first * (z.w + 1)) store) (simp length-drop (omega arith))
 
   -- no new term is left: what is left of the others is all

@@ -25,12 +25,12 @@ use Rattle.start.proofs.Weighing.{weighs_then}
 use Rattle.start.proofs.Whole.{start_whole}
 
 -- zeros are the weights of nothing
-weighed_zeros : (m n : ℕ) → Weighed m [] (replicate n 0)
+pub weighed_zeros : (m n : ℕ) → Weighed m [] (replicate n 0)
 unfolding coefficient_at
 weighed_zeros m n = record { weighs = λ v l. get_or-replicate n v 0 0 (rw length-replicate at l) ∙ sym (zero-mod m) }
 
 -- c has no more bits than there are outputs
-addend_within : (kind : Kind) (n : ℕ) → addend_width kind n ≤ outputs_of kind n
+pub addend_within : (kind : Kind) (n : ℕ) → addend_width kind n ≤ outputs_of kind n
 unfolding addend_width adds outputs_of
 addend_within plain n = omega arith
 addend_within signed n = omega arith

@@ -12,6 +12,12 @@ use Rattle.rules.proofs.Terms.{hit_zero, weaken, above, coefficient_cons, coeffi
 use Rattle.rules.proofs.Gathered.{unique, under_of, gather_below, gather_coefficients, gather_coefficient}
 use Rattle.weave.specs.Merging.{Lows, floor, Merging}
 
+-- the last set is at most the bound
+pub floor_le : (hi : ℕ) (p : Polynomial) → Below hi p → floor hi p ≤ hi
+unfolding floor
+floor_le hi [] h = omega arith
+floor_le hi (x ∷ p) h = let l : floor x.1 p ≤ x.1 = floor_le x.1 p h.1 in omega arith
+
 -- a falling list behind another, below its last set
 pub below_append : (hi : ℕ) (p q : Polynomial) → Below hi p → Below (floor hi p) q → Below hi (p ++ q)
 unfolding floor

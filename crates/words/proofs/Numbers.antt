@@ -48,7 +48,7 @@ words_from s i w h f =
     words_of (words_at s i w) (λ n l. rw (get_or_words_at s i w n (omega (arith, length_words_at s i w h))) (f (i + n)))
 
 -- a number of words under a mask is the number under the mask's number
-num_masked : (xs ys : List ℕ) → Words xs → Words ys → length xs ≡ length ys → num (masked xs ys) ≡ bit_xor (num xs) (num ys)
+pub num_masked : (xs ys : List ℕ) → Words xs → Words ys → length xs ≡ length ys → num (masked xs ys) ≡ bit_xor (num xs) (num ys)
 unfolding num masked
 num_masked [] [] f g e = sym (xor_zero_l 0)
 num_masked [] (y ∷ ys) f g e = absurd (omega arith)

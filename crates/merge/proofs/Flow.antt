@@ -1,8 +1,6 @@
 -- Laws of streams: the terms of one, the next of them, their heads, and a head that is taken.
-use Rattle.std.proofs.Common.{◌≡◌, ℕ, zero, suc, ◌+◌, ◌-◌, ◌*◌, ◌%◌, ◌<◌, ◌≤◌, Bool, true, false, cond, List, [], ◌∷◌, length, get_or, set, ℤ, pos, refl, ap, sym, ◌∙◌, add-zero, add_assoc, add-one, arith, eqb, eqb-true, lt-ltb, le-ltb, drop-cons, drop_of_length-le}
+use Rattle.std.proofs.Common.{◌≡◌, ℕ, zero, suc, ◌+◌, ◌-◌, ◌*◌, ◌%◌, ◌<◌, ◌≤◌, Bool, true, false, cond, List, [], ◌∷◌, length, get_or, set, ℤ, pos, refl, ap, sym, ◌∙◌, add-zero, add_assoc, add-one, arith, eqb, lt-ltb, le-ltb, drop-cons, drop_of_length-le}
 use native.Mathlib.Nat.{mod-add-mod}
-use borrow.Author.Tests.{eqb-false}
-use Rattle.std.specs.Int.{from_bool}
 use lib.Seq.{get_or-set_same, get_or-set_other}
 use Rattle.rules.specs.Values.{bit}
 use Rattle.rules.specs.Polynomial.{Polynomial, Below, keep}
@@ -173,11 +171,3 @@ module _ (s : Streams) (i j : ℕ) (li : i < s.weighted.terms.count) (lj : j < c
         num_short s.weighted.terms.words.now (i * (s.weighted.terms.width + 1) + 1) s.weighted.terms.width s.weighted.gate.k (omega (arith, term_in)) s.masked.short small,
         num_short s.masks.now (j * s.weighted.terms.width) s.weighted.terms.width s.weighted.gate.k mask_in s.masked.short (s.masked.low j lj),
       )
-
--- a bit that was asked for, as a number
-pub bit_told : (s v : ℕ) → from_bool (eqb (bit s v) 1) ≡ bit s v
-bit_told s v = go (eqb (bit s v) 1) refl
-  where
-    go : (b : Bool) → eqb (bit s v) 1 ≡ b → from_bool b ≡ bit s v
-    go true e = sym (eqb-true (bit s v) 1 e)
-    go false e = omega (arith, bit_digit s v, eqb-false (bit s v) 1 e)
